@@ -1,0 +1,3 @@
+pub mod Quiet
+pub mod Simulation
+pub mod Whole

@@ -1,0 +1,63 @@
+// The compiler's one public call.
+
+ghost use Rattle.std.specs.Prelude.{◌≡◌, ◌≤◌, IfOk, IsErrOf, length};
+ghost use Rattle.mc_straight.specs.Form.{Straight, IsStraightSource};
+ghost use Rattle.mc_compile.specs.Tracks.{CompiledFrom};
+
+use crate::emit::{code, image};
+use mc_image::image::Image;
+use mc_scan::{ScanFault, scan};
+use mc_straight::read::straight_line;
+use mc_word::bytes::Memory;
+use std::alloc::Global;
+use thiserror::Error;
+
+/// Why no image was made.
+#[derive(Clone, Copy, PartialEq, Eq, Debug, Error)]
+pub enum Refusal {
+    /// The source is not of a form that is compiled today.
+    #[error("not yet source")]
+    NotYet,
+    #[error("memory")]
+    Memory,
+}
+
+impl From<Memory> for Refusal {
+    ghost use Rattle.std.specs.Prelude.{◌≡◌};
+    ghost use Rattle.mc_compile.specs.declared.compile.Refusal.TheVariants.{Memory as MemoryWanted};
+
+    ghost from_gives = { λ _ refusal. refusal ≡ MemoryWanted };
+
+    fn from(_error: Memory) -> Refusal {
+        Refusal::Memory
+    }
+}
+
+// More tokens make a source of a size above 20,000 words, at 12 words for each.
+const MOST_TOKENS: usize = 1666;
+
+/// Compiles a source with workspaces of 200 words and at most 16 processes.
+///
+/// # Errors
+///
+/// `NotYet` exactly where the source is no straight-line device module, and `Memory`.
+pub fn compile(alloc: Global, source: &[u8]) -> Result<Image, Refusal>
+    requires { length source.now ≤ 262144 }
+    ensures ok { IfOk result (λ i. CompiledFrom source.now 200 16 i) }
+    ensures not_yet { IsErrOf result Refusal.NotYet → (form : Straight) → IsStraightSource source.now form → ⊥ }
+{
+    let scanned = match scan(alloc, source) {
+        Ok(scanned) => scanned,
+        Err(ScanFault::Memory) => return Err(Refusal::Memory),
+        Err(_) => return Err(Refusal::NotYet),
+    };
+    let tokens = scanned.tokens.as_slice();
+    if tokens.len() > MOST_TOKENS {
+        return Err(Refusal::NotYet);
+    }
+    let Some(form) = straight_line(alloc, tokens)? else {
+        return Err(Refusal::NotYet);
+    };
+    let words = code(alloc, &form)?;
+    Ok(image(alloc, words.as_slice())?)
+}

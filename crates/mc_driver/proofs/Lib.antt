@@ -1,0 +1,4 @@
+pub mod Headline
+pub mod Ran
+pub mod Digits
+pub mod Loads

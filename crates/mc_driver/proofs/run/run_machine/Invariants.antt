@@ -1,0 +1,10 @@
+use Rattle.std.proofs.Common.{◌≡◌}
+use Rattle.pdp_machine.specs.Run.{advances}
+use Rattle.mc_driver.proofs.run.run_machine.Given as goal
+
+abbrev pub invariant-loop-i : goal.invariant-loop-i
+invariant-loop-i l =
+    record {
+      entries : l.entries.items ≡ (advances l._i l.fn.machine).entries;
+      machine : l.machine ≡ (advances l._i l.fn.machine).machine;
+    }

@@ -1,0 +1,69 @@
+-- What a run prints, and that it is a run of the program's meaning.
+use Rattle.std.specs.Prelude.{◌≡◌, ◌≢◌, ℕ, ◌==◌, nat_le, Bool, true, false, ◌&&◌, List, [], Option, Some, None, slice_index, if◌then◌else◌}
+use Rattle.tracking.specs.Tracking.{Tracking}
+use Rattle.pdp_def.specs.Moments.{MachineState, Moment, after_all, ArePossible}
+use Rattle.mc_image.specs.Image.{ImageState}
+use Rattle.mc_script.specs.Script.{ScriptState}
+use Rattle.pdp_machine.specs.declared.stop.Stop.{Stop}
+use Rattle.pdp_machine.specs.declared.stop.Stop.TheVariants.{Halt, BusFault, Reserved, Silent, Limit}
+use Rattle.pdp_machine.specs.Timed.{Timed, Advanced}
+use Rattle.pdp_machine.specs.Run.{machine_run}
+use Rattle.pdp_machine.specs.Made.{state}
+use Rattle.mc_report.specs.declared.ending.Ending.{Ending}
+use Rattle.mc_report.specs.declared.ending.Ending.TheVariants.{End, Stuck, Trap, Limit as LimitEnding, Halt as HaltEnding, BusFault as BusFaultEnding, Reserved as ReservedEnding, Silent as SilentEnding}
+use Rattle.mc_report.specs.Report.{report_of}
+use Rattle.mc_prog.specs.Program.{Program}
+use Rattle.mc_meaning.specs.Config.{Config, opening_config}
+use Rattle.mc_meaning.specs.Runs.{Step, config_after, IsEnded, IsStuck}
+use Rattle.mc_straight.specs.Form.{program_of, size_of}
+use Rattle.mc_compile.specs.Tracks.{Bounds, opened, Tracked, CompiledFrom}
+
+-- words 46 and 50 (octal) of a machine
+abbrev pub trap_word : Timed → ℕ
+trap_word m = slice_index m.core.memory 19
+
+abbrev pub live_word : Timed → ℕ
+live_word m = slice_index m.core.memory 20
+
+abbrev pub is_trap : ℕ → Bool
+is_trap n = nat_le 1 n && nat_le n 9
+
+-- the ending of a run: a halt is a trap of the number in word 46, and silence is the end where no process is left
+abbrev pub ending_of : Option Stop → ℕ → ℕ → Ending
+ending_of None trap live = SilentEnding
+ending_of (Some Halt) trap live = if is_trap trap then Trap trap else HaltEnding
+ending_of (Some (BusFault a)) trap live = BusFaultEnding a
+ending_of (Some (Reserved w)) trap live = ReservedEnding w
+ending_of (Some Silent) trap live = if live == 0 then End else Stuck
+ending_of (Some Limit) trap live = LimitEnding
+
+abbrev pub status_of : Ending → ℕ
+status_of End = 0
+status_of Stuck = 6
+status_of (Trap n) = if nat_le n 7 then 5 else 9
+status_of LimitEnding = 7
+status_of HaltEnding = 8
+status_of (BusFaultEnding a) = 8
+status_of (ReservedEnding w) = 8
+status_of SilentEnding = 8
+
+abbrev pub ending : Timed → Ending
+ending m = ending_of m.stop (trap_word m) (live_word m)
+
+-- The machine's whole run is a list of moments, which one run of the program tracks; and how the machine falls silent is
+-- how that run ends.
+pub record IsRunOfProgram (program : Program) (bounds : Bounds) (image : ImageState) (script : ScriptState) : Type 0 where
+  pub moments : List Moment
+  pub possible : ArePossible (opened image) moments
+  pub leads : after_all (opened image) moments ≡ state [] (machine_run image script)
+  pub tracking : Tracking (Tracked program bounds image) moments
+  pub ends : (machine_run image script).machine.stop ≡ Some Silent → live_word (machine_run image script).machine ≡ 0 → IsEnded (config_after program (opening_config program) tracking.run)
+  pub sticks : (machine_run image script).machine.stop ≡ Some Silent → live_word (machine_run image script).machine ≢ 0 → IsStuck (config_after program (opening_config program) tracking.run)
+
+-- the text is the report of the machine run of an image that is compiled from the source
+pub record IsRunOf (source : List ℕ) (script : ScriptState) (status : ℕ) (text : List ℕ) : Type 0 where
+  pub image : ImageState
+  pub compiled : CompiledFrom source 200 16 image
+  pub text_is : text ≡ report_of (machine_run image script).entries (machine_run image script).machine.instructions (ending (machine_run image script).machine) false
+  pub status_is : status ≡ status_of (ending (machine_run image script).machine)
+  pub meaning : IsRunOfProgram (program_of compiled.form) (record { workspace = 200; processes = 16; size = size_of compiled.accepted.tokens }) image script

@@ -1,0 +1,4 @@
+pub mod Config
+pub mod Evaluation
+pub mod Runs
+pub mod Exclusion

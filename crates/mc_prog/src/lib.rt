@@ -1,0 +1,2 @@
+// The resolved program: definitions, and no code yet.
+#![tactic(auto)]

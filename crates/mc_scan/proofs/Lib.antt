@@ -1,0 +1,11 @@
+mod Fronts
+mod Words
+mod Reserved
+mod Numbers
+mod Fronted
+mod Values
+mod Symbols
+mod Quotes
+mod Comments
+mod BadBytes
+mod Reading

@@ -1,0 +1,5 @@
+pub mod Refusals
+pub mod Runs
+pub mod Pieces
+pub mod Closes
+pub mod Numerals

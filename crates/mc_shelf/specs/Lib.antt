@@ -1,0 +1,4 @@
+pub mod Failing
+pub mod Kept
+pub mod Laws
+pub mod Outside

@@ -1,0 +1,9 @@
+pub mod Spellings
+pub mod Sources
+pub mod ByteLaws
+pub mod SpellingLaws
+pub mod KindLaws
+pub mod GapLaws
+pub mod SourceLaws
+pub mod FaultLaws
+pub mod Laws

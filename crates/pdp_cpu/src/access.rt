@@ -1,0 +1,105 @@
+// Words at addresses: memory, the status word, device registers.
+
+ghost use Rattle.std.specs.Prelude.{◌≡◌, ◌<◌, ◌+◌, ◌≤◌, false, List, IfOk, IfErr, OnErr, OnOk};
+ghost use Rattle.arrayvec.specs.ArrayVec.{array_vec_len};
+ghost use Rattle.pdp_dev.specs.declared.entry.Entry.{Entry};
+ghost use Rattle.pdp_def.specs.Does.{bus, is_bad, read_word, put_word, write_word};
+
+use arrayvec::ArrayVec;
+use mc_word::Word;
+use pdp_def::outcome::Outcome;
+use pdp_def::processor::Core;
+use pdp_dev::devices::Devices;
+use pdp_dev::entry::Entry;
+use pdp_dev::register::register_of;
+
+/// The address of the status word.
+pub const PS: Word = 0o177776;
+
+/// The first address above memory.
+pub const MEMORY_END: Word = 0o160000;
+
+/// The word at an address, with what its read does to a device; a fault at a bad address.
+#[tactic(auto, unfolding(pdp_def::specs::Does::read_word))]
+pub fn read_word(core: &Core, devices: &mut Devices, a: Word) -> Result<Word, Outcome>
+    ensures ok { (said : List Entry) → IfOk result (λ w. read_word a (bus core.now devices.old said) ≡ Ok (record { value = w; bus = bus core.now devices.new said })) }
+    ensures err { (said : List Entry) → IfErr result (λ stop. read_word a (bus core.now devices.old said) ≡ Err stop) }
+{
+    if a % 2 == 1 {
+        return Err(Outcome::BusFault(a));
+    }
+    if a < MEMORY_END {
+        return Ok(core.word(a));
+    }
+    if a == PS {
+        return Ok(core.ps());
+    }
+    match register_of(a) {
+        Some(register) => Ok(devices.read_register(register)),
+        None => Err(Outcome::BusFault(a)),
+    }
+}
+
+/// Whether no word has this address: an odd one, or one above memory that is neither PS nor a register.
+#[tactic(auto, unfolding(pdp_def::specs::Does::is_bad))]
+pub fn is_bad(a: Word) -> bool
+    ensures { result ≡ is_bad a }
+{
+    if a % 2 == 1 {
+        true
+    } else if a < MEMORY_END || a == PS {
+        false
+    } else {
+        register_of(a).is_none()
+    }
+}
+
+/// Puts a word at an address that is not bad.
+#[tactic(auto, unfolding(pdp_def::specs::Does::put_word))]
+pub fn put_word(
+    core: &mut Core,
+    devices: &mut Devices,
+    said: &mut ArrayVec<Entry, 8>,
+    a: Word,
+    w: Word,
+)
+    requires room { array_vec_len said.old < 8 }
+    ensures after { put_word a w (bus core.old devices.old said.old.items) ≡ bus core.new devices.new said.new.items }
+    ensures room { array_vec_len said.new ≤ array_vec_len said.old + 1 }
+{
+    if a < MEMORY_END {
+        core.set_word(a, w);
+        return;
+    }
+    if a == PS {
+        core.set_ps(w % 256);
+        return;
+    }
+    if let Some(register) = register_of(a) {
+        if let Some(entry) = devices.write_register(register, w) {
+            said.push(entry);
+        }
+    }
+}
+
+/// Writes a word to an address; a fault at a bad one, where nothing changes.
+#[tactic(auto, unfolding(pdp_def::specs::Does::write_word))]
+pub fn write_word(
+    core: &mut Core,
+    devices: &mut Devices,
+    said: &mut ArrayVec<Entry, 8>,
+    a: Word,
+    w: Word,
+) -> Result<(), Outcome>
+    requires room { array_vec_len said.old < 8 }
+    ensures ok { OnOk result (write_word a w (bus core.old devices.old said.old.items) ≡ Ok (record { value = tt; bus = bus core.new devices.new said.new.items })) }
+    ensures err { IfErr result (λ stop. write_word a w (bus core.old devices.old said.old.items) ≡ Err stop) }
+    ensures same { OnErr result ((core.new ≡ core.old) × (said.new.items ≡ said.old.items)) }
+    ensures room { OnOk result (array_vec_len said.new ≤ array_vec_len said.old + 1) }
+{
+    if is_bad(a) {
+        return Err(Outcome::BusFault(a));
+    }
+    put_word(core, devices, said, a, w);
+    Ok(())
+}

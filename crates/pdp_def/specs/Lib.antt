@@ -1,0 +1,9 @@
+pub mod State
+pub mod Does
+pub mod Operands
+pub mod Perform
+pub mod Interrupt
+pub mod Moments
+pub mod Frames
+pub mod Laws
+pub mod Bytes

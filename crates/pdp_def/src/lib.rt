@@ -1,0 +1,6 @@
+// The processor's state, and the definitions of what it does.
+#![tactic(auto)]
+
+pub mod operand;
+pub mod outcome;
+pub mod processor;

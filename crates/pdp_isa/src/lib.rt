@@ -1,0 +1,7 @@
+// The instructions of the PDP-11 and their words.
+#![tactic(auto)]
+
+pub mod instr;
+pub mod table;
+#[cfg(test)]
+mod tests;

@@ -1,0 +1,5 @@
+pub mod Runs
+pub mod Tracking
+pub mod Follow
+pub mod Compose
+pub mod Simulation

@@ -1,0 +1,3 @@
+device module m [4];
+var TPB [177566B]: char;
+begin TPB := 'A' end m.

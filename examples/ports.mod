@@ -1,0 +1,3 @@
+device module ports [6];
+var printer [177566B], punch [177556B]: char;
+begin printer := 'A'; punch := 102C end ports.
