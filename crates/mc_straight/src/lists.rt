@@ -29,7 +29,7 @@ pub fn variables(alloc: Global, tokens: &[Token]) -> Result<Vec<Port>, Memory>
 }
 
 /// How many statements there are in so many tokens with so many variables. More than 1666 tokens are too many, at 12
-/// words of code each.
+/// words of size each.
 pub fn number_of_statements(tokens: usize, variables: usize) -> Option<usize>
     requires { variables ≤ 262144 }
     ensures { MatchOption result ((statements : ℕ) → AreNumbers tokens variables statements → ⊥) (λ statements. AreNumbers tokens variables statements) }
