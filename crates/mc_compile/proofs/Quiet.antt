@@ -1,12 +1,11 @@
 -- Devices of which none may ask for an interrupt.
-use Rattle.std.proofs.Common.{◌≡◌, ℕ, Bool, true, false, ◌&&◌, ◌||◌, Option, Some, None, refl, sym, ap, ◌∙◌}
-use Rattle.std.specs.Prelude.{if◌then◌else◌, not}
+use Rattle.std.proofs.Common.{◌≡◌, ℕ, Bool, true, false, ◌&&◌, ◌||◌, Option, Some, None, refl}
+use Rattle.std.specs.Prelude.{if◌then◌else◌}
 use Rattle.pdp_dev.specs.declared.devices.Line.{Line}
 use Rattle.pdp_dev.specs.declared.devices.Reader.{Reader}
 use Rattle.pdp_dev.specs.declared.devices.Devices.{Devices}
 use Rattle.pdp_dev.specs.declared.entry.Event.{Event}
 use Rattle.pdp_dev.specs.declared.entry.Event.TheVariants.{Key, Printer as PrinterEvent, Punch as PunchEvent, Reader as ReaderEvent, Clock}
-use Rattle.pdp_dev.specs.declared.register.Register.{Register}
 use Rattle.pdp_dev.specs.declared.register.Register.TheVariants.{PrinterByte, PunchByte}
 use Rattle.pdp_dev.specs.Devices.{set_line, set_reader, asks, takes_byte, reads_byte, happened, written, request_of, opening_devices}
 

@@ -1,7 +1,7 @@
 -- The image's machine, one moment at a time, beside the program's run.
-use Rattle.std.proofs.Common.{◌≡◌, ◌≢◌, ℕ, zero, suc, ◌+◌, ◌*◌, ◌/◌, ◌%◌, ◌<◌, ◌≤◌, Bool, true, false, ◌&&◌, List, [], ◌∷◌, ◌++◌, length, Option, Some, None, Ok, refl, sym, ap, ◌∙◌, subst, arith, append_assoc, length-append, ◌⊎◌, inl, inr, get_or-set_same}
-use Rattle.std.specs.Prelude.{slice_index, slice_set, slice_get, option_map, map, if◌then◌else◌, ◌==◌, nat_le}
-use Rattle.std.proofs.lemmas.List.{length-set, append-nil}
+use Rattle.std.proofs.Common.{◌≡◌, ℕ, zero, suc, ◌+◌, ◌*◌, ◌/◌, ◌%◌, ◌<◌, ◌≤◌, Bool, true, false, List, [], ◌∷◌, ◌++◌, length, Option, Some, None, Ok, refl, sym, ap, ◌∙◌, subst, arith, ◌⊎◌, inl, inr, get_or-set_same}
+use Rattle.std.specs.Prelude.{slice_index, slice_set, slice_get, option_map, map}
+use Rattle.std.proofs.lemmas.List.{length-set}
 use Rattle.std.proofs.lemmas.Bool.{false≢true}
 use Rattle.tracking.specs.Runs.{after, IsRunOf}
 use Rattle.tracking.specs.Simulation.{total, Catches, Simulates}
@@ -13,23 +13,20 @@ use Rattle.pdp_dev.specs.declared.entry.Event.{Event}
 use Rattle.pdp_dev.specs.declared.entry.Port.{Port}
 use Rattle.pdp_dev.specs.declared.entry.Port.TheVariants.{Printer, Punch}
 use Rattle.pdp_dev.specs.declared.entry.Entry.{Entry}
-use Rattle.pdp_dev.specs.declared.entry.Entry.TheVariants.{Event as EventEntry}
-use Rattle.pdp_dev.specs.Devices.{written, happened, request_of, said_at}
+use Rattle.pdp_dev.specs.Devices.{written, request_of, said_at}
 use Rattle.pdp_def.specs.declared.outcome.Outcome.{Outcome}
-use Rattle.pdp_def.specs.declared.outcome.Outcome.TheVariants.{Ran, Idle}
-use Rattle.pdp_def.specs.declared.operand.Place.TheVariants.{InMemory}
 use Rattle.pdp_def.specs.State.{CoreState}
-use Rattle.pdp_def.specs.Does.{Bus, bus, After, Access, entries, is_bad, put_word, write_word}
+use Rattle.pdp_def.specs.Does.{bus, After, entries, is_bad, put_word, write_word}
 use Rattle.pdp_def.specs.Perform.{bit, with_codes, moved_codes, sets, attempt, or_nothing, effect}
-use Rattle.pdp_def.specs.Laws.{HasAt, HasAt-set, core_of, move_ends, move_law, wait_law}
-use Rattle.pdp_def.specs.Moments.{MachineState, Moment, Occurs as OccursMoment, Grants as GrantsMoment, Executes, happens, executed, IsPossible, is_above, priority_of}
+use Rattle.pdp_def.specs.Laws.{HasAt, HasAt-set, core_of, move_law, wait_law}
+use Rattle.pdp_def.specs.Moments.{MachineState, Occurs as OccursMoment, Grants as GrantsMoment, Executes, happens, executed, IsPossible, is_above, priority_of}
 use Rattle.mc_prog.specs.Program.{CellInfo, Program}
-use Rattle.mc_meaning.specs.Config.{Main, Acting, Ended, CallsBody, Runs, Returns, Ends, Activation, Process, Config, topmost, can_grant, opening_config}
+use Rattle.mc_meaning.specs.Config.{Main, Acting, Ended, CallsBody, Runs, Returns, Ends, Activation, Process, Config}
 use Rattle.mc_meaning.specs.Evaluation.{target_of, write_target}
 use Rattle.mc_meaning.specs.Runs.{Step, Occurs, Evals, steps, IsStep, earns}
 use Rattle.mc_straight.specs.declared.form.Put.{Put}
 use Rattle.mc_straight.specs.Form.{Straight, address_of, cell_of, statement_of, program_of}
-use Rattle.mc_compile.specs.Code.{move_code, put_code, end_code, leave_code, puts_code, code_of}
+use Rattle.mc_compile.specs.Code.{end_code, leave_code, puts_code, code_of}
 use Rattle.mc_compile.proofs.Quiet.{IsQuiet, quiet_none, quiet_event, quiet_printer, quiet_punch}
 
 -- where the program stands between two instructions: before its body, inside it with these statements left, behind it,
@@ -242,15 +239,20 @@ module _ (form : Straight) where
   follows_event m c n e r =
       let m' : MachineState = happens m (OccursMoment e) in
       let same : steps program c (Occurs e) ≡ config_at form r.phase m'.devices m'.journal = ap (λ (c : Config). steps program c (Occurs e)) r.config in
-      let e0 : n ≡ n + 0 = omega arith in
-      (Occurs e ∷ [], ((tt, tt), subst (λ (k : ℕ). IsRelated form m' (steps program c (Occurs e)) k) e0 (record {
-        phase = r.phase;
-        config = same;
-        known = r.known;
-        quiet = quiet_event m.devices e r.quiet;
-        goes = r.goes;
-        stands = stays r.phase r.stands;
-      })))
+      let e0 : n ≡ n + 0 = omega arith in (
+        Occurs e ∷ [],
+        (
+          (tt, tt),
+          subst (λ (k : ℕ). IsRelated form m' (steps program c (Occurs e)) k) e0 (record {
+            phase = r.phase;
+            config = same;
+            known = r.known;
+            quiet = quiet_event m.devices e r.quiet;
+            goes = r.goes;
+            stands = stays r.phase r.stands;
+          }),
+        ),
+      )
     where
       stays : (phase : Phase) → IsActing form phase m n ⊎ IsWaiting phase m n → IsActing form phase (happens m (OccursMoment e)) n ⊎ IsWaiting phase (happens m (OccursMoment e)) n
       stays phase (inl a) = inl (record { at = a.at; runs = a.runs; instructions = a.instructions })

@@ -1,34 +1,31 @@
 -- For each list of moments from the image's opening there is a run that tracks it.
-use Rattle.std.proofs.Common.{◌≡◌, ◌≢◌, ℕ, zero, suc, ◌+◌, ◌*◌, ◌-◌, ◌/◌, ◌%◌, ◌<◌, ◌≤◌, true, false, List, [], ◌∷◌, ◌++◌, length, Option, Some, None, refl, sym, ap, ◌∙◌, subst, arith, length-append, ◌⊎◌, inl, inr}
+use Rattle.std.proofs.Common.{◌≡◌, ◌≢◌, ℕ, zero, suc, ◌+◌, ◌*◌, ◌-◌, ◌/◌, ◌%◌, ◌<◌, ◌≤◌, true, List, [], ◌∷◌, length, Some, refl, sym, ap, ◌∙◌, subst, arith, length-append, ◌⊎◌, inl, inr}
 use Rattle.std.specs.Prelude.{slice_index, slice_get, Contains, map}
 use Rattle.std.specs.List.{flat_map}
 use Rattle.std.proofs.lemmas.Bool.{false≢true}
-use Rattle.tracking.specs.Runs.{after, IsRunOf}
-use Rattle.tracking.specs.Tracking.{Tracking}
-use Rattle.tracking.specs.Simulation.{total, weaker, Simulated, tracked}
+use Rattle.tracking.specs.Simulation.{weaker, Simulated, tracked}
 use Rattle.pdp_dev.specs.declared.devices.Devices.{Devices}
 use Rattle.pdp_dev.specs.declared.entry.Entry.{Entry}
 use Rattle.pdp_def.specs.Bytes.{patched_by, patched-inside}
-use Rattle.pdp_def.specs.Laws.{HasAt, HasAt-each, core_of}
-use Rattle.pdp_def.specs.Moments.{MachineState, Moment, happens, IsPossible, after_all, ArePossible, priority_of}
+use Rattle.pdp_def.specs.Laws.{HasAt, HasAt-each}
+use Rattle.pdp_def.specs.Moments.{MachineState, happens, IsPossible}
 use Rattle.mc_image.specs.declared.image.Block.{Block}
 use Rattle.mc_image.specs.Blocks.{AreBlocks}
-use Rattle.mc_image.specs.Image.{ImageState}
-use Rattle.pdp_machine.specs.Opening.{byte_with, word_with, image_memory, image_memory-at, length-image_memory}
+use Rattle.pdp_machine.specs.Opening.{byte_with, image_memory, image_memory-at, length-image_memory}
 use Rattle.mc_prog.specs.Program.{Program}
-use Rattle.mc_meaning.specs.Config.{Nested, Process, Config, live, opening_config}
-use Rattle.mc_meaning.specs.Runs.{Step, steps, IsStep, earns, config_after, IsRun}
+use Rattle.mc_meaning.specs.Config.{Nested, Config, live, opening_config}
+use Rattle.mc_meaning.specs.Runs.{steps, IsStep, earns}
 use Rattle.mc_meaning.specs.Exclusion.{IsInside, as_foot, as_member, Exclusive}
 use Rattle.mc_straight.specs.declared.form.Put.{Put}
 use Rattle.mc_tree.specs.declared.place.Place.{Place}
 use Rattle.mc_tree.specs.declared.token.Token.{Token}
 use Rattle.mc_tree.specs.Sources.{Spells}
 use Rattle.mc_tree.specs.Laws.{Spells-unique}
-use Rattle.mc_straight.specs.Form.{Straight, IsStraight, IsStraightSource, program_of, size_of}
-use Rattle.mc_compile.specs.Code.{move_code, put_code, end_code, leave_code, puts_code, code_of, word_bytes, image_of}
+use Rattle.mc_straight.specs.Form.{Straight, IsStraight, program_of, size_of}
+use Rattle.mc_compile.specs.Code.{leave_code, puts_code, code_of, word_bytes, image_of}
 use Rattle.mc_compile.specs.Tracks.{Bounds, opened, IsAtRest, Agrees, Tracked, Compiled, CompiledFrom}
 use Rattle.mc_compile.proofs.Quiet.{quiet_opening}
-use Rattle.mc_compile.proofs.Simulation.{Phase, Before, Inside, Behind, Done, config_at, process_at, AreKnown, IsKnown, IsAt, Waits, IsActing, IsWaiting, IsRelated, follows}
+use Rattle.mc_compile.proofs.Simulation.{Phase, Before, Inside, Behind, Done, config_at, process_at, AreKnown, IsActing, IsWaiting, IsRelated, follows}
 
 -- The words of an image stand in memory
 
@@ -137,9 +134,6 @@ module _ (form : Straight) (bounds : Bounds) (one : 1 ≤ bounds.processes) wher
         exclusive = exclusive_at (program_of form) form r.phase m.devices m.journal;
         room = omega (arith, live_most form r.phase, one);
       })
-
-
-
 
   opening_related : 4096 + length (code_of form) ≤ 28672 → AreKnown form form.puts → IsRelated form (opened (image_of (code_of form))) (opening_config (program_of form)) 0
   opening_related room known =

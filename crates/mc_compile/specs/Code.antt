@@ -1,7 +1,6 @@
 -- The words of a straight-line program, and its image.
-use Rattle.std.specs.Prelude.{ℕ, ◌+◌, ◌*◌, ◌/◌, ◌%◌, List, [], ◌∷◌, ◌++◌}
+use Rattle.std.specs.Prelude.{ℕ, ◌*◌, ◌/◌, ◌%◌, List, [], ◌∷◌, ◌++◌}
 use Rattle.std.specs.List.{flat_map}
-use Rattle.mc_image.specs.declared.image.Block.{Block}
 use Rattle.mc_image.specs.Image.{ImageState}
 use Rattle.mc_straight.specs.declared.form.Put.{Put}
 use Rattle.mc_straight.specs.Form.{Straight, address_of}

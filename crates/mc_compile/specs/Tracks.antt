@@ -1,9 +1,8 @@
 -- What it is for a run of the machine to be tracked by a run of the program's meaning.
-use Rattle.std.specs.Prelude.{◌≡◌, ◌≢◌, ℕ, ◌+◌, ◌*◌, ◌≤◌, true, List, [], Option, Some, None, slice_index}
+use Rattle.std.specs.Prelude.{◌≡◌, ◌≢◌, ℕ, ◌+◌, ◌*◌, ◌≤◌, true, List, [], Some, None, slice_index}
 use Rattle.tracking.specs.Tracking.{Tracking}
 use Rattle.tracking.specs.Simulation.{total}
 use Rattle.pdp_dev.specs.Devices.{opening_devices}
-use Rattle.pdp_def.specs.declared.outcome.Outcome.{Outcome}
 use Rattle.pdp_def.specs.declared.outcome.Outcome.TheVariants.{Halt, BusFault, Reserved}
 use Rattle.pdp_def.specs.Laws.{core_of}
 use Rattle.pdp_def.specs.Moments.{MachineState, Moment, priority_of, after_all, ArePossible}

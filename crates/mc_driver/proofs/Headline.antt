@@ -38,13 +38,15 @@ module _ (program : Program) (bounds : Bounds) (image : ImageState) (script : Sc
       let rests = run_rests image script silent in
       let r = a.waits rests.0 in
       let free : is_above 0 (request_of last.machine.devices) ≡ false = subst (λ (p : ℕ). is_above p (request_of last.machine.devices) ≡ false) r.priority rests.1 in
-      let granted : is_above 0 (request_of c.devices) ≡ false = subst (λ (d : Devices). is_above 0 (request_of d) ≡ false) a.devices free in
-      (record {
-        trap = r.no_trap;
-        nothing_acts = r.nothing_acts;
-        nothing_ready = r.nothing_ready;
-        nothing_granted = ap (λ (o : Option ℕ). is_above (priority_at c o) (request_of c.devices)) r.nothing_acts ∙ granted;
-      }, r.count)
+      let granted : is_above 0 (request_of c.devices) ≡ false = subst (λ (d : Devices). is_above 0 (request_of d) ≡ false) a.devices free in (
+        record {
+          trap = r.no_trap;
+          nothing_acts = r.nothing_acts;
+          nothing_ready = r.nothing_ready;
+          nothing_granted = ap (λ (o : Option ℕ). is_above (priority_at c o) (request_of c.devices)) r.nothing_acts ∙ granted;
+        },
+        r.count,
+      )
 
   pub run_of_program : Compiled program bounds image → IsRunOfProgram program bounds image script
   run_of_program compiled =

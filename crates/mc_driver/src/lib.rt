@@ -4,6 +4,8 @@
 mod command;
 mod run;
 mod script;
+#[cfg(test)]
+mod tests;
 mod words;
 
 pub use command::modula;

@@ -46,11 +46,7 @@ pub fn run_source(alloc: Global, source: &[u8], script: &Script) -> Result<Repor
     };
     let mut machine = Machine::open(alloc, &image, script)?;
     let entries = run_machine(alloc, &mut machine, script.limit())?;
-    let ending = ending_of(
-        machine.stop(),
-        machine.peek(TRAP),
-        machine.peek(LIVE),
-    );
+    let ending = ending_of(machine.stop(), machine.peek(TRAP), machine.peek(LIVE));
     let text = report(
         alloc,
         entries.as_slice(),

@@ -1,5 +1,5 @@
 -- What a part of an instruction does to the processor, the devices and the journal.
-use Rattle.std.specs.Prelude.{◌≡◌, ℕ, ◌+◌, ◌/◌, ◌%◌, ◌==◌, nat_lt, Bool, true, false, List, [], ◌∷◌, ◌++◌, Option, Some, None, Result, Ok, Err, if◌then◌else◌, slice_index, slice_set}
+use Rattle.std.specs.Prelude.{◌≡◌, ℕ, ◌/◌, ◌%◌, ◌==◌, nat_lt, Bool, true, false, List, [], ◌∷◌, ◌++◌, Option, Some, None, Result, Ok, Err, if◌then◌else◌, slice_index, slice_set}
 use Rattle.pdp_dev.specs.declared.devices.Devices.{Devices}
 use Rattle.pdp_dev.specs.declared.register.Register.{Register}
 use Rattle.pdp_dev.specs.declared.entry.Entry.{Entry}

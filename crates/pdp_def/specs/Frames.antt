@@ -1,6 +1,6 @@
 -- An instruction or a grant only adds to the journal, and does the same whatever stands in it.
-use Rattle.std.specs.Prelude.{◌≡◌, ℕ, ◌+◌, ◌/◌, ◌%◌, ◌==◌, nat_lt, Bool, true, false, List, [], ◌∷◌, ◌++◌, Option, Some, None, Result, Ok, Err, if◌then◌else◌, slice_index, slice_set, refl}
-use Rattle.std.proofs.Common.{sym, ap, ◌∙◌, subst, append_assoc}
+use Rattle.std.specs.Prelude.{◌≡◌, ℕ, ◌+◌, ◌/◌, ◌%◌, ◌==◌, nat_lt, Bool, true, false, List, [], ◌∷◌, ◌++◌, Option, Some, None, Ok, Err, if◌then◌else◌, slice_index, slice_set, refl}
+use Rattle.std.proofs.Common.{ap, ◌∙◌, append_assoc}
 use Rattle.mc_word.specs.declared.word.Codes.{Codes}
 use Rattle.pdp_dev.specs.declared.devices.Devices.{Devices}
 use Rattle.pdp_dev.specs.declared.register.Register.{Register}
@@ -9,12 +9,12 @@ use Rattle.pdp_dev.specs.declared.entry.Entry.TheVariants.{Grant}
 use Rattle.pdp_dev.specs.Register.{register_at}
 use Rattle.pdp_dev.specs.Devices.{said_at, written, granted}
 use Rattle.pdp_def.specs.declared.outcome.Outcome.{Outcome}
-use Rattle.pdp_def.specs.declared.outcome.Outcome.TheVariants.{Ran, Idle, Halt}
+use Rattle.pdp_def.specs.declared.outcome.Outcome.TheVariants.{Ran, Halt}
 use Rattle.pdp_def.specs.declared.operand.Place.{Place}
 use Rattle.pdp_def.specs.declared.operand.Place.TheVariants.{InRegister, InMemory}
 use Rattle.pdp_def.specs.State.{CoreState}
-use Rattle.pdp_def.specs.Does.{Bus, bus, After, Access, Does, then_do, ◌>>=◌, ◌>>◌, gives, goes_on, register, set_register, is_bad, read_register, read_word, entries, put_register, put_word, write_word}
-use Rattle.pdp_def.specs.Operands.{plus, step_on, step_back, next_word, indexed, in_memory, deferred, place_of, locate, fetch, put}
+use Rattle.pdp_def.specs.Does.{Bus, bus, After, Access, Does, then_do, ◌>>=◌, gives, register, set_register, is_bad, read_register, read_word, entries, put_register, put_word, write_word}
+use Rattle.pdp_def.specs.Operands.{plus, step_on, step_back, next_word, indexed, in_memory, deferred, locate, fetch, put}
 use Rattle.pdp_def.specs.Perform.{set_codes, sets, moved_codes, moves, waits, reserved, performs, attempt, or_nothing, effect}
 use Rattle.pdp_def.specs.Interrupt.{takes_over, grants_at, interrupted}
 

@@ -1,5 +1,5 @@
 -- What a grant does.
-use Rattle.std.specs.Prelude.{ℕ, ◌+◌, ◌/◌, ◌%◌, Bool, false, List, [], ◌∷◌, ◌++◌, Ok, Err, if◌then◌else◌, slice_index, slice_set}
+use Rattle.std.specs.Prelude.{ℕ, ◌+◌, ◌/◌, ◌%◌, false, List, [], ◌∷◌, ◌++◌, Ok, Err, if◌then◌else◌, slice_index, slice_set}
 use Rattle.pdp_dev.specs.declared.devices.Devices.{Devices}
 use Rattle.pdp_dev.specs.declared.entry.Entry.{Entry}
 use Rattle.pdp_dev.specs.declared.entry.Entry.TheVariants.{Grant}

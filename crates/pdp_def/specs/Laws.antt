@@ -1,6 +1,6 @@
 -- Words in memory, and what an instruction that stands there does.
-use Rattle.std.specs.Prelude.{◌≡◌, ◌≢◌, ℕ, zero, suc, ◌+◌, ◌*◌, ◌/◌, ◌%◌, ◌<◌, ◌≤◌, ◌==◌, nat_lt, Bool, true, false, List, [], ◌∷◌, length, slice_index, slice_set, Ok, refl, if◌then◌else◌}
-use Rattle.std.proofs.Common.{sym, ap, ◌∙◌, subst, arith, get_or-set_other}
+use Rattle.std.specs.Prelude.{◌≡◌, ◌≢◌, ℕ, suc, ◌+◌, ◌*◌, ◌/◌, ◌%◌, ◌<◌, ◌≤◌, true, false, List, [], ◌∷◌, length, slice_index, slice_set, Ok, refl}
+use Rattle.std.proofs.Common.{◌∙◌, subst, arith, get_or-set_other}
 use Rattle.std.proofs.lemmas.Bool.{ne_eqb, lt-ltb}
 use Rattle.pdp_dev.specs.declared.devices.Devices.{Devices}
 use Rattle.pdp_dev.specs.declared.entry.Entry.{Entry}
@@ -8,7 +8,7 @@ use Rattle.pdp_def.specs.declared.outcome.Outcome.{Outcome}
 use Rattle.pdp_def.specs.declared.outcome.Outcome.TheVariants.{Ran, Idle}
 use Rattle.pdp_def.specs.declared.operand.Place.TheVariants.{InMemory}
 use Rattle.pdp_def.specs.State.{CoreState}
-use Rattle.pdp_def.specs.Does.{Bus, bus, After, Access, then_do, ◌>>◌, gives, read_word, write_word}
+use Rattle.pdp_def.specs.Does.{bus, Access, then_do, ◌>>◌, gives, read_word, write_word}
 use Rattle.pdp_def.specs.Operands.{step_on, locate, fetch, put}
 use Rattle.pdp_def.specs.Perform.{sets, moved_codes, moves, performs, attempt}
 
@@ -30,7 +30,7 @@ HasAt-each memory at [] each = tt
 HasAt-each memory at (w ∷ words) each =
     let first : at + 0 ≡ at = omega arith in
     let next : (i : ℕ) → i < length words → slice_index memory (at + 1 + i) ≡ slice_index words i =
-        λ i h. let e : at + suc i ≡ at + 1 + i = omega arith in subst (λ (k : ℕ). slice_index memory k ≡ slice_index words i) e (each (suc i) (omega arith)) in
+    λ i h. let e : at + suc i ≡ at + 1 + i = omega arith in subst (λ (k : ℕ). slice_index memory k ≡ slice_index words i) e (each (suc i) (omega arith)) in
     (subst (λ (k : ℕ). slice_index memory k ≡ w) first (each 0 (omega arith)), HasAt-each memory (at + 1) words next)
 
 -- a processor that is not waiting, with these registers

@@ -10,7 +10,7 @@ use Rattle.pdp_dev.specs.Devices.{happened, request_of}
 use Rattle.pdp_def.specs.declared.outcome.Outcome.{Outcome}
 use Rattle.pdp_def.specs.declared.outcome.Outcome.TheVariants.{Ran, Idle, Halt, BusFault, Reserved}
 use Rattle.pdp_def.specs.State.{CoreState}
-use Rattle.pdp_def.specs.Does.{Bus, After}
+use Rattle.pdp_def.specs.Does.{After}
 use Rattle.pdp_def.specs.Perform.{effect}
 use Rattle.pdp_def.specs.Interrupt.{interrupted}
 

@@ -1,6 +1,5 @@
 -- The eight ways to name an operand.
-use Rattle.std.specs.Prelude.{ℕ, ◌<◌, ◌+◌, ◌/◌, ◌%◌, ◌==◌, Option, if◌then◌else◌}
-use Rattle.pdp_def.specs.Does.{Bus}
+use Rattle.std.specs.Prelude.{ℕ, ◌<◌, ◌+◌, ◌/◌, ◌%◌, ◌==◌, if◌then◌else◌}
 use Rattle.pdp_def.specs.declared.operand.Place.{Place}
 use Rattle.pdp_def.specs.declared.operand.Place.TheVariants.{InRegister, InMemory}
 use Rattle.pdp_def.specs.Does.{Does, ◌>>=◌, ◌>>◌, gives, register, set_register, read_word, write_word}

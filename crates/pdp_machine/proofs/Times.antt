@@ -4,7 +4,7 @@ use Rattle.std.specs.Prelude.{unwrap_or, is_some, drop, if◌then◌else◌, ◌
 use Rattle.std.proofs.lemmas.Bool.{eqb-true, eqb-false}
 use Rattle.mc_script.specs.Script.{AreAfter}
 use Rattle.mc_script.specs.declared.script.Key.{Key}
-use Rattle.pdp_machine.specs.Timed.{Timed, IsTimed, IsLater, IsAhead, AreAhead, earlier, next_key, next_tick, next_event, key_at}
+use Rattle.pdp_machine.specs.Timed.{Timed, IsTimed, IsAhead, AreAhead, earlier, next_key, next_tick, next_event, key_at}
 
 pub IsAhead-weaker : (t t' : ℕ) (due : Option ℕ) → t ≤ t' → IsAhead t' due → IsAhead t due
 IsAhead-weaker t t' None h k = tt
@@ -48,24 +48,24 @@ reached (Some x) (Some y) l h = omega (arith, h)
 -- at the next event, or at the limit, nothing that is due is past
 pub at_next : (m : Timed) (t : ℕ) → IsTimed m → m.time ≤ t → t ≡ min (unwrap_or (next_event m) m.limit) m.limit → IsTimed (record m { time = t })
 at_next m t i h e =
-        let k : Option ℕ = next_key m.keys in
-        let c : Option ℕ = next_tick m.clock m.time in
-        let r : Option ℕ = earlier m.reader_due (earlier k c) in
-        let p : Option ℕ = earlier m.punch_due r in
-        let back : (due : Option ℕ) → Precedes (next_event m) due → IsAhead t due = λ due q. subst (λ (x : ℕ). IsAhead x due) (sym e) (reached (next_event m) due m.limit q) in
-        record {
-          time = omega (arith, e);
-          limit = i.limit;
-          instructions = omega (arith, h, i.instructions);
-          printer = back m.printer_due (earlier-left m.printer_due p);
-          punch = back m.punch_due (earlier-right m.printer_due p m.punch_due (earlier-left m.punch_due r));
-          reader = back m.reader_due (earlier-right m.printer_due p m.reader_due (earlier-right m.punch_due r m.reader_due (earlier-left m.reader_due (earlier k c))));
-          keys = AreAhead-next m.time t m.keys i.keys (back k (earlier-right m.printer_due p k (earlier-right m.punch_due r k (earlier-right m.reader_due (earlier k c) k (earlier-left k c)))));
-          period = i.period;
-          printer_delay = i.printer_delay;
-          punch_delay = i.punch_delay;
-          reader_delay = i.reader_delay;
-        }
+    let k : Option ℕ = next_key m.keys in
+    let c : Option ℕ = next_tick m.clock m.time in
+    let r : Option ℕ = earlier m.reader_due (earlier k c) in
+    let p : Option ℕ = earlier m.punch_due r in
+    let back : (due : Option ℕ) → Precedes (next_event m) due → IsAhead t due = λ due q. subst (λ (x : ℕ). IsAhead x due) (sym e) (reached (next_event m) due m.limit q) in
+    record {
+      time = omega (arith, e);
+      limit = i.limit;
+      instructions = omega (arith, h, i.instructions);
+      printer = back m.printer_due (earlier-left m.printer_due p);
+      punch = back m.punch_due (earlier-right m.printer_due p m.punch_due (earlier-left m.punch_due r));
+      reader = back m.reader_due (earlier-right m.printer_due p m.reader_due (earlier-right m.punch_due r m.reader_due (earlier-left m.reader_due (earlier k c))));
+      keys = AreAhead-next m.time t m.keys i.keys (back k (earlier-right m.printer_due p k (earlier-right m.punch_due r k (earlier-right m.reader_due (earlier k c) k (earlier-left k c)))));
+      period = i.period;
+      printer_delay = i.printer_delay;
+      punch_delay = i.punch_delay;
+      reader_delay = i.reader_delay;
+    }
 
 -- the keys that are left once the one of this time is struck
 pub keys_left : (time : ℕ) (keys : List Key) → AreAhead time keys → AreAhead (time + 1) (if is_some (key_at time keys) then drop 1 keys else keys)

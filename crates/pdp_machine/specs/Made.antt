@@ -1,11 +1,11 @@
 -- An advance is a list of moments, and so is a whole run.
-use Rattle.std.specs.Prelude.{◌≡◌, ℕ, zero, suc, ◌+◌, ◌*◌, ◌%◌, ◌==◌, nat_le, nat_lt, Bool, true, false, ◌&&◌, List, [], ◌∷◌, ◌++◌, drop, Option, Some, None, refl, if◌then◌else◌}
+use Rattle.std.specs.Prelude.{◌≡◌, ℕ, zero, suc, ◌+◌, nat_le, Bool, true, false, List, [], ◌∷◌, ◌++◌, Option, Some, None, refl, if◌then◌else◌}
 use Rattle.std.proofs.Common.{sym, ap, ◌∙◌, subst, append_assoc}
 use Rattle.std.proofs.lemmas.List.{append-nil}
-use Rattle.tracking.specs.Runs.{after, IsRunOf, after-append, IsRunOf-append}
+use Rattle.tracking.specs.Runs.{after-append, IsRunOf-append}
 use Rattle.pdp_dev.specs.declared.devices.Request.{Request}
 use Rattle.pdp_dev.specs.declared.entry.Event.{Event}
-use Rattle.pdp_dev.specs.declared.entry.Event.TheVariants.{Key as KeyEvent, Printer, Punch, Reader, Clock}
+use Rattle.pdp_dev.specs.declared.entry.Event.TheVariants.{Key as KeyEvent, Printer, Punch, Clock}
 use Rattle.pdp_dev.specs.declared.entry.Entry.{Entry}
 use Rattle.pdp_dev.specs.declared.entry.Entry.TheVariants.{Event as EventEntry}
 use Rattle.pdp_dev.specs.Devices.{request_of}
@@ -18,11 +18,10 @@ use Rattle.pdp_def.specs.Frames.{after_behind, effect_behind, interrupted_behind
 use Rattle.pdp_def.specs.Moments.{MachineState, Moment, Occurs, Grants, Executes, counted, stopped_by, came_to, granted_to, executed, happens, is_above, priority_of, IsPossible, after_all, ArePossible}
 use Rattle.mc_image.specs.Image.{ImageState}
 use Rattle.mc_script.specs.Script.{ScriptState}
-use Rattle.mc_script.specs.declared.script.Key.{Key}
 use Rattle.pdp_machine.specs.declared.stop.Stop.{Stop}
 use Rattle.pdp_machine.specs.declared.stop.Stop.TheVariants.{Halt, BusFault, Reserved, Silent, Limit}
 use Rattle.pdp_machine.specs.Stops.{stop_of}
-use Rattle.pdp_machine.specs.Timed.{Timed, Advanced, is_due, occurs, takes_tape, reader_comes, punch_comes, key_at, strikes_key, key_comes, printer_comes, is_tick, clock_comes, with_events, goes_on, grants, executed as executed_in_time, executes, is_to_come, idles, runs_or_idles, grants_or, turn, going, advance_from, advance}
+use Rattle.pdp_machine.specs.Timed.{Timed, Advanced, is_due, occurs, takes_tape, reader_comes, punch_comes, key_at, strikes_key, key_comes, printer_comes, is_tick, clock_comes, with_events, goes_on, grants, executes, is_to_come, idles, runs_or_idles, grants_or, turn, going, advance_from, advance}
 use Rattle.pdp_machine.specs.Opening.{opening_machine}
 use Rattle.pdp_machine.specs.Run.{advances, machine_run}
 

@@ -1,7 +1,6 @@
 -- The machine at opening.
-use Rattle.std.specs.Prelude.{◌≡◌, ℕ, zero, suc, ◌+◌, ◌*◌, ◌/◌, ◌%◌, ◌<◌, ◌==◌, false, List, [], ◌∷◌, ◌++◌, length, take, None, slice_index, refl, if◌then◌else◌}
-use Rattle.std.proofs.Common.{sym, ap, ◌∙◌, subst, arith}
-use Rattle.std.proofs.lemmas.Bool.{ne_eqb, eq-eqb}
+use Rattle.std.specs.Prelude.{◌≡◌, ℕ, zero, suc, ◌+◌, ◌*◌, ◌/◌, ◌%◌, ◌<◌, List, [], ◌∷◌, ◌++◌, length, None, slice_index, refl}
+use Rattle.std.proofs.Common.{sym, ap, ◌∙◌, arith}
 use Rattle.mc_image.specs.declared.image.Block.{Block}
 use Rattle.mc_image.specs.Image.{ImageState}
 use Rattle.mc_script.specs.Script.{ScriptState}
@@ -100,7 +99,7 @@ unfolding image_memory
 image_memory-is m blocks n e each =
     from_bytes m blocks 0 n e
     (λ k h.
-        let low = each (2 * k) (omega arith) in
-        let high = each (2 * k + 1) (omega arith) in
-        let here : k ≡ 0 + k = omega arith in
-        sym (halves m k) ∙ ap (λ (x : ℕ). x + 256 * byte_of m (2 * k + 1)) low ∙ ap (λ (y : ℕ). byte_with blocks (2 * k) 0 + 256 * y) high ∙ ap (word_with blocks) here)
+    let low = each (2 * k) (omega arith) in
+    let high = each (2 * k + 1) (omega arith) in
+    let here : k ≡ 0 + k = omega arith in
+    sym (halves m k) ∙ ap (λ (x : ℕ). x + 256 * byte_of m (2 * k + 1)) low ∙ ap (λ (y : ℕ). byte_with blocks (2 * k) 0 + 256 * y) high ∙ ap (word_with blocks) here)

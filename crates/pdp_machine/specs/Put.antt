@@ -1,6 +1,6 @@
 -- Blocks are put into memory, one after the other.
-use Rattle.std.specs.Prelude.{◌≡◌, ℕ, suc, zero, ◌+◌, ◌<◌, ◌≤◌, ◌/◌, ◌%◌, ◌==◌, Bool, true, if◌then◌else◌, List, [], ◌∷◌, ◌++◌, length, take, false, slice_index_or, slice_set, refl}
-use Rattle.std.proofs.Common.{sym, ap, ◌∙◌, subst, arith}
+use Rattle.std.specs.Prelude.{◌≡◌, ℕ, suc, zero, ◌<◌, ◌/◌, ◌%◌, ◌==◌, Bool, true, if◌then◌else◌, List, [], ◌∷◌, ◌++◌, length, false, slice_index_or, slice_set, refl}
+use Rattle.std.proofs.Common.{sym, ap, ◌∙◌, arith}
 use Rattle.mc_image.specs.declared.image.Block.{Block}
 use Rattle.mc_image.specs.Blocks.{AreBlocks, IsPlaced}
 use Rattle.pdp_def.specs.State.{CoreState, byte_of, no_words, no_words-at, length-no_words}

@@ -1,5 +1,5 @@
 -- The whole run of a machine.
-use Rattle.std.specs.Prelude.{◌≡◌, ℕ, zero, suc, ◌+◌, List, [], ◌++◌}
+use Rattle.std.specs.Prelude.{ℕ, zero, suc, ◌+◌, [], ◌++◌}
 use Rattle.mc_image.specs.Image.{ImageState}
 use Rattle.mc_script.specs.Script.{ScriptState}
 use Rattle.pdp_machine.specs.Timed.{Timed, Advanced, advance}

@@ -1,20 +1,19 @@
 -- What follows from how a run ends.
 use Rattle.std.specs.Prelude.{◌≡◌, ◌≢◌, ℕ, zero, suc, ◌+◌, nat_le, Bool, true, false, List, [], ◌++◌, Option, Some, None, refl, if◌then◌else◌}
-use Rattle.std.proofs.Common.{sym, ap, ◌∙◌, subst, arith}
+use Rattle.std.proofs.Common.{ap, ◌∙◌, arith}
 use Rattle.std.proofs.lemmas.List.{append-nil}
 use Rattle.pdp_dev.specs.declared.devices.Request.{Request}
 use Rattle.pdp_dev.specs.declared.entry.Entry.{Entry}
 use Rattle.pdp_dev.specs.Devices.{request_of}
 use Rattle.pdp_def.specs.declared.outcome.Outcome.{Outcome}
 use Rattle.pdp_def.specs.declared.outcome.Outcome.TheVariants.{Ran, Idle, Halt as Halted, BusFault as Fault, Reserved as Unknown}
-use Rattle.pdp_def.specs.Does.{After}
 use Rattle.pdp_def.specs.Perform.{effect}
 use Rattle.pdp_def.specs.Interrupt.{interrupted}
 use Rattle.pdp_def.specs.Moments.{is_above, priority_of}
 use Rattle.mc_image.specs.Image.{ImageState}
 use Rattle.mc_script.specs.Script.{ScriptState}
 use Rattle.pdp_machine.specs.declared.stop.Stop.{Stop}
-use Rattle.pdp_machine.specs.declared.stop.Stop.TheVariants.{Silent, Limit}
+use Rattle.pdp_machine.specs.declared.stop.Stop.TheVariants.{Silent}
 use Rattle.pdp_machine.specs.Stops.{stop_of}
 use Rattle.pdp_machine.specs.Timed.{Timed, Advanced, with_events, grants, executes, is_to_come, idles, runs_or_idles, grants_or, turn, going, advance_from, advance}
 use Rattle.pdp_machine.specs.Opening.{opening_machine}

@@ -1,5 +1,5 @@
 -- The machine in time: one advance.
-use Rattle.std.specs.Prelude.{◌≡◌, ◌≤◌, ◌<◌, ℕ, ◌+◌, ◌*◌, ◌/◌, ◌%◌, ◌==◌, nat_le, nat_lt, min, Bool, true, false, not, ◌&&◌, ◌||◌, is_some, unwrap_or, List, [], ◌∷◌, ◌++◌, drop, Option, Some, None, if◌then◌else◌}
+use Rattle.std.specs.Prelude.{◌≤◌, ℕ, ◌+◌, ◌*◌, ◌/◌, ◌%◌, ◌==◌, nat_le, nat_lt, min, Bool, false, not, ◌&&◌, ◌||◌, is_some, unwrap_or, List, [], ◌∷◌, ◌++◌, drop, Option, Some, None, if◌then◌else◌}
 use Rattle.pdp_dev.specs.declared.devices.Devices.{Devices}
 use Rattle.pdp_dev.specs.declared.devices.Request.{Request}
 use Rattle.pdp_dev.specs.declared.entry.Event.{Event}
@@ -9,7 +9,7 @@ use Rattle.pdp_dev.specs.declared.entry.Entry.TheVariants.{Event as EventEntry}
 use Rattle.pdp_dev.specs.Devices.{happened, request_of}
 use Rattle.pdp_def.specs.declared.outcome.Outcome.{Outcome}
 use Rattle.pdp_def.specs.State.{CoreState}
-use Rattle.pdp_def.specs.Does.{Bus, After}
+use Rattle.pdp_def.specs.Does.{After}
 use Rattle.pdp_def.specs.Perform.{effect}
 use Rattle.pdp_def.specs.Interrupt.{interrupted}
 use Rattle.pdp_def.specs.Moments.{counted, is_above, priority_of}

@@ -6,3 +6,5 @@ pub mod machine;
 pub mod opening;
 pub mod queue;
 pub mod stop;
+#[cfg(test)]
+mod tests;

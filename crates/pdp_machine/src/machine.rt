@@ -246,7 +246,9 @@ impl Machine {
         ensures later { IsNone self.new.stop → self.old.time < self.new.time }
     {
         match self.devices.pending() {
-            Some(request) if self.core.ps() / 32 % 8 < request.level => self.grant(request, entries),
+            Some(request) if self.core.ps() / 32 % 8 < request.level => self.grant(
+                request, entries,
+            ),
             _ if self.core.waiting() => self.idle(),
             _ => self.execute(entries),
         }
@@ -263,12 +265,7 @@ impl Machine {
         ensures later { IsNone self.new.stop → self.old.time < self.new.time }
     {
         let before = self.devices;
-        let outcome = interrupt(
-            &mut self.core,
-            &mut self.devices,
-            request,
-            entries,
-        );
+        let outcome = interrupt(&mut self.core, &mut self.devices, request, entries);
         self.settle(before, outcome, 0);
     }
 
@@ -283,11 +280,7 @@ impl Machine {
         ensures later { IsNone self.new.stop → self.old.time < self.new.time }
     {
         let before = self.devices;
-        let outcome = execute(
-            &mut self.core,
-            &mut self.devices,
-            entries,
-        );
+        let outcome = execute(&mut self.core, &mut self.devices, entries);
         self.settle(before, outcome, counted(outcome));
     }
 

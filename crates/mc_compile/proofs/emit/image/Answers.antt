@@ -1,4 +1,4 @@
-use Rattle.std.proofs.Common.{◌≡◌, ◌≤◌, ◌+◌, ◌*◌, ℕ, List, [], ◌∷◌, length, subst, sym, ap, ◌∙◌, rules, arith}
+use Rattle.std.proofs.Common.{◌≡◌, ℕ, List, [], ◌∷◌, subst, sym, rules, arith}
 use Rattle.std.specs.List.{flat_map}
 use Rattle.mc_image.specs.declared.image.Block.{Block}
 use Rattle.mc_image.specs.Blocks.{AreBlocks}

@@ -1,4 +1,4 @@
-use Rattle.std.proofs.Common.{◌≡◌, ◌+◌, length}
+use Rattle.std.proofs.Common.{◌≡◌, ◌+◌}
 use Rattle.pdp_def.specs.Bytes.{IsPatched}
 use Rattle.pdp_def.proofs.processor.put_bytes.Given as goal
 

@@ -1,10 +1,9 @@
-use Rattle.std.proofs.Common.{◌≡◌, ◌≤◌, ◌+◌, ◌∷◌, [], ◌++◌, ℕ, List, length, take, get_or, take_all, subst, sym, ap, ◌∙◌, arith}
+use Rattle.std.proofs.Common.{◌≡◌, ◌≤◌, ◌+◌, ◌∷◌, [], ◌++◌, ℕ, List, length, take, take_all, subst, sym, ap, ◌∙◌}
 use Rattle.std.proofs.lemmas.Grind.{take_at_read}
 use Rattle.std.specs.Prelude.{slice_set}
 use Rattle.mc_image.specs.declared.image.Block.{Block}
 use Rattle.mc_image.specs.Blocks.{end_of}
-use Rattle.pdp_def.specs.State.{CoreState, no_words}
-use Rattle.pdp_machine.specs.Opening.{image_memory}
+use Rattle.pdp_def.specs.State.{CoreState}
 use Rattle.pdp_machine.specs.Put.{HasBlocks, HasBlocks-none, HasBlocks-more, placed_at, opened_as}
 use Rattle.pdp_machine.proofs.opening.open_core.Goals as goal
 

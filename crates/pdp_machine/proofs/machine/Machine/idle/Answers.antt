@@ -1,6 +1,6 @@
-use Rattle.std.proofs.Common.{subst, sym, ap, ◌∙◌, Option, ◌≡◌, ℕ, ◌+◌, ◌<◌, ◌≤◌, min, arith}
+use Rattle.std.proofs.Common.{subst, sym, ap, ◌∙◌, Option, ◌≡◌, ℕ, ◌+◌, ◌≤◌, min, arith}
 use Rattle.std.specs.Prelude.{unwrap_or}
-use Rattle.pdp_machine.specs.Timed.{Timed, IsTimed, IsLater, IsAhead, next_event}
+use Rattle.pdp_machine.specs.Timed.{Timed, IsTimed, IsAhead, next_event}
 use Rattle.pdp_machine.proofs.Times.{at_next, later_at}
 use Rattle.pdp_machine.proofs.machine.Machine.idle.Goals as goal
 

@@ -1,7 +1,7 @@
-use Rattle.std.proofs.Common.{subst, sym, ap, ◌∙◌, ◌≡◌, ℕ, ◌+◌, List, Option, arith, drop}
+use Rattle.std.proofs.Common.{subst, sym, ap, ◌∙◌, ℕ, ◌+◌, List, Option, arith, drop}
 use Rattle.std.specs.Prelude.{is_some, if◌then◌else◌}
 use Rattle.mc_script.specs.declared.script.Key.{Key}
-use Rattle.pdp_machine.specs.Timed.{AreAhead, key_at}
+use Rattle.pdp_machine.specs.Timed.{AreAhead}
 use Rattle.pdp_machine.proofs.Times.{AreAhead-weaker, keys_left}
 use Rattle.pdp_machine.proofs.machine.Machine.key_comes.Goals as goal
 

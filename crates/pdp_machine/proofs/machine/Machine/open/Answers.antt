@@ -1,4 +1,4 @@
-use Rattle.std.proofs.Common.{◌≡◌, ℕ, List, subst, sym, ap, ◌∙◌, arith}
+use Rattle.std.proofs.Common.{◌≡◌, List, subst, sym, ◌∙◌, arith}
 use Rattle.mc_script.specs.declared.script.Key.{Key}
 use Rattle.pdp_machine.specs.Timed.{AreAhead}
 use Rattle.pdp_machine.proofs.Times.{AreAhead-after, AreAhead-weaker}

@@ -1,5 +1,5 @@
 use Rattle.std.proofs.Common.{subst, sym, ℕ, ◌+◌, ◌<◌, ◌≤◌, arith}
-use Rattle.pdp_machine.specs.Timed.{Timed, IsLater, IsAhead}
+use Rattle.pdp_machine.specs.Timed.{Timed, IsLater}
 use Rattle.pdp_machine.proofs.Times.{IsAhead-weaker, AreAhead-weaker}
 use Rattle.pdp_machine.proofs.machine.Machine.settle.Goals as goal
 
