@@ -1,7 +1,7 @@
 -- What the loads of a command tell.
-use Rattle.std.proofs.Common.{◌≡◌, ◌≢◌, ℕ, ◌+◌, ◌-◌, ◌^◌, ◌<◌, ◌≤◌, List, [], ◌∷◌, ◌++◌, length, Option, Some, None, Result, Ok, Err, refl, sym, ap, ◌∙◌, subst, arith}
-use Rattle.std.specs.Prelude.{IfOk, IsErrOf, ◌↔◌}
-use Rattle.mc_shelf.specs.Outside.{Files, content, Told, Rose, asks, appended, IsPart}
+use Rattle.std.proofs.Common.{◌≡◌, ℕ, ◌-◌, ◌^◌, ◌<◌, ◌≤◌, List, [], ◌∷◌, ◌++◌, length, Option, Some, Result, Ok, Err, ap, ◌∙◌, subst, arith}
+use Rattle.std.specs.Prelude.{IfOk}
+use Rattle.mc_shelf.specs.Outside.{Rose, asks, appended, IsPart}
 use Rattle.mc_shelf.specs.declared.ask.Ask.{Ask}
 use Rattle.mc_shelf.specs.declared.ask.Ask.TheVariants.{Load}
 use Rattle.mc_driver.specs.Words.{Names}

@@ -1,9 +1,9 @@
 -- Advances up to a stop are the whole run.
-use Rattle.std.proofs.Common.{◌≡◌, ℕ, suc, ◌+◌, ◌-◌, ◌<◌, Bool, true, false, List, ◌++◌, Option, Some, None, refl, sym, ap, ◌∙◌, subst, arith}
+use Rattle.std.proofs.Common.{◌≡◌, ℕ, suc, ◌+◌, ◌-◌, ◌<◌, true, List, ◌++◌, Option, Some, None, sym, ap, ◌∙◌, arith}
 use Rattle.std.specs.Prelude.{is_some}
 use Rattle.pdp_dev.specs.declared.entry.Entry.{Entry}
 use Rattle.pdp_machine.specs.declared.stop.Stop.{Stop}
-use Rattle.pdp_machine.specs.Timed.{Timed, Advanced, advance}
+use Rattle.pdp_machine.specs.Timed.{Timed, advance}
 use Rattle.pdp_machine.specs.Run.{advances}
 use Rattle.pdp_machine.specs.Silence.{advances-stopped}
 

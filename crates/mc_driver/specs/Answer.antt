@@ -1,5 +1,5 @@
 -- What the top call answers, and what it prints with it.
-use Rattle.std.specs.Prelude.{◌≡◌, ◌≢◌, ℕ, ◌<◌, ◌≤◌, List, [], ◌∷◌, ◌++◌, length, codes, Option, Some, None}
+use Rattle.std.specs.Prelude.{◌≡◌, ℕ, ◌<◌, ◌≤◌, List, [], ◌∷◌, length, codes, Option, Some, None}
 use Rattle.mc_shelf.specs.Outside.{Files, content}
 use Rattle.mc_shelf.specs.declared.ask.Ask.{Ask}
 use Rattle.mc_shelf.specs.declared.ask.Ask.TheVariants.{Load}

@@ -1,12 +1,12 @@
 -- What a run prints, and that it is a run of the program's meaning.
-use Rattle.std.specs.Prelude.{◌≡◌, ◌≢◌, ℕ, ◌==◌, nat_le, Bool, true, false, ◌&&◌, List, [], Option, Some, None, slice_index, if◌then◌else◌}
+use Rattle.std.specs.Prelude.{◌≡◌, ◌≢◌, ℕ, ◌==◌, nat_le, Bool, false, ◌&&◌, List, [], Option, Some, None, IsSome, slice_index, if◌then◌else◌}
 use Rattle.tracking.specs.Tracking.{Tracking}
-use Rattle.pdp_def.specs.Moments.{MachineState, Moment, after_all, ArePossible}
+use Rattle.pdp_def.specs.Moments.{Moment, after_all, ArePossible}
 use Rattle.mc_image.specs.Image.{ImageState}
 use Rattle.mc_script.specs.Script.{ScriptState}
 use Rattle.pdp_machine.specs.declared.stop.Stop.{Stop}
 use Rattle.pdp_machine.specs.declared.stop.Stop.TheVariants.{Halt, BusFault, Reserved, Silent, Limit}
-use Rattle.pdp_machine.specs.Timed.{Timed, Advanced}
+use Rattle.pdp_machine.specs.Timed.{Timed, is_to_come}
 use Rattle.pdp_machine.specs.Run.{machine_run}
 use Rattle.pdp_machine.specs.Made.{state}
 use Rattle.mc_report.specs.declared.ending.Ending.{Ending}
@@ -14,9 +14,9 @@ use Rattle.mc_report.specs.declared.ending.Ending.TheVariants.{End, Stuck, Trap,
 use Rattle.mc_report.specs.Report.{report_of}
 use Rattle.mc_prog.specs.Program.{Program}
 use Rattle.mc_meaning.specs.Config.{Config, opening_config}
-use Rattle.mc_meaning.specs.Runs.{Step, config_after, IsEnded, IsStuck}
+use Rattle.mc_meaning.specs.Runs.{config_after, IsTrapped, IsQuiet, IsEnded, IsStuck}
 use Rattle.mc_straight.specs.Form.{program_of, size_of}
-use Rattle.mc_compile.specs.Tracks.{Bounds, opened, Tracked, CompiledFrom}
+use Rattle.mc_compile.specs.Tracks.{Bounds, opened, Traps, Tracked, CompiledFrom}
 
 -- words 46 and 50 (octal) of a machine
 abbrev pub trap_word : Timed → ℕ
@@ -50,20 +50,47 @@ status_of SilentEnding = 8
 abbrev pub ending : Timed → Ending
 ending m = ending_of m.stop (trap_word m) (live_word m)
 
--- The machine's whole run is a list of moments, which one run of the program tracks; and how the machine falls silent is
--- how that run ends.
+-- the endings that a compiled program can have
+abbrev pub IsProgramEnding : Ending → Type 0
+IsProgramEnding End = Unit {0}
+IsProgramEnding Stuck = Unit {0}
+IsProgramEnding (Trap n) = Unit {0}
+IsProgramEnding LimitEnding = Unit {0}
+IsProgramEnding HaltEnding = ⊥
+IsProgramEnding (BusFaultEnding a) = ⊥
+IsProgramEnding (ReservedEnding w) = ⊥
+IsProgramEnding SilentEnding = ⊥
+
+-- How a machine's run and the program's run end: each exactly where the other does, unless the script's limit cut it off.
+pub record EndsAs (program : Program) (bounds : Bounds) (m : Timed) (c : Config) : Type 0 where
+  pub ending_is : IsProgramEnding (ending m)
+  -- silence is where nothing can go on and no event is to come
+  pub quiet : m.stop ≡ Some Silent → IsQuiet c × (is_to_come m ≡ false)
+  pub falls_silent : IsQuiet c → is_to_come m ≡ false → m.stop ≢ Some Limit → m.stop ≡ Some Silent
+  -- at the end every process has ended
+  pub ended : ending m ≡ End → IsEnded c
+  pub ends : IsEnded c → is_to_come m ≡ false → m.stop ≢ Some Limit → ending m ≡ End
+  -- where the machine is stuck, some process has not ended
+  pub stuck : ending m ≡ Stuck → IsStuck c
+  pub sticks : IsStuck c → is_to_come m ≡ false → m.stop ≢ Some Limit → ending m ≡ Stuck
+  -- a trap is the program's own, or a check of the workspace
+  pub trapped : (n : ℕ) → ending m ≡ Trap n → Traps program bounds n c
+  pub traps : (n : ℕ) → IsTrapped n c → m.stop ≢ Some Limit → ending m ≡ Trap n
+
+-- The machine's whole run is a list of moments, which one run of the program tracks; and both end alike.
 pub record IsRunOfProgram (program : Program) (bounds : Bounds) (image : ImageState) (script : ScriptState) : Type 0 where
   pub moments : List Moment
   pub possible : ArePossible (opened image) moments
   pub leads : after_all (opened image) moments ≡ state [] (machine_run image script)
   pub tracking : Tracking (Tracked program bounds image) moments
-  pub ends : (machine_run image script).machine.stop ≡ Some Silent → live_word (machine_run image script).machine ≡ 0 → IsEnded (config_after program (opening_config program) tracking.run)
-  pub sticks : (machine_run image script).machine.stop ≡ Some Silent → live_word (machine_run image script).machine ≢ 0 → IsStuck (config_after program (opening_config program) tracking.run)
+  pub ends_as : EndsAs program bounds (machine_run image script).machine (config_after program (opening_config program) tracking.run)
 
 -- the text is the report of the machine run of an image that is compiled from the source
 pub record IsRunOf (source : List ℕ) (script : ScriptState) (status : ℕ) (text : List ℕ) : Type 0 where
   pub image : ImageState
   pub compiled : CompiledFrom source 200 16 image
+  -- the machine stops: each advance without a stop takes time
+  pub stops : IsSome (machine_run image script).machine.stop
   pub text_is : text ≡ report_of (machine_run image script).entries (machine_run image script).machine.instructions (ending (machine_run image script).machine) false
   pub status_is : status ≡ status_of (ending (machine_run image script).machine)
   pub meaning : IsRunOfProgram (program_of compiled.form) (record { workspace = 200; processes = 16; size = size_of compiled.accepted.tokens }) image script

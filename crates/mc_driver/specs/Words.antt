@@ -1,5 +1,5 @@
 -- The words of the one command that runs today.
-use Rattle.std.specs.Prelude.{◌≡◌, ℕ, ◌==◌, Bool, true, false, ◌&&◌, not, bytes_eq, codes, List, [], ◌∷◌, Option, Some, None, if◌then◌else◌}
+use Rattle.std.specs.Prelude.{ℕ, ◌==◌, Bool, true, ◌&&◌, not, bytes_eq, codes, List, [], ◌∷◌, Option, Some, None, if◌then◌else◌}
 
 -- the names of the source and of the script
 pub record Names : Type 0 where

@@ -57,7 +57,7 @@ fn say<S: Shelf>(shelf: &mut S, text: &[u8], status: u8) -> u8
 fn answer(alloc: Global, source: &[u8], script: &[u8]) -> Result<Report, Memory>
     requires { length source.now ≤ 262144 }
     ensures answer { IfOk result (λ r. IsTextAnswer source.now script.now r.status r.text.items) }
-    ensures status { IfOk result (λ r. (r.status ≢ 11) × (r.status ≢ 12) × (r.status ≢ 14)) }
+    ensures status { IfOk result (λ r. (r.status ≢ 11) × (r.status ≢ 12) × (r.status ≢ 14) × (r.status ≢ 8)) }
 {
     let Some(limit) = read_limit(script) else {
         return not_yet(alloc, b"not yet script\n");
@@ -85,6 +85,9 @@ fn not_yet(alloc: Global, line: &[u8]) -> Result<Report, Memory>
 /// the source is not built yet.
 pub fn modula<S: Shelf>(alloc: Global, words: &[String], shelf: &mut S) -> u8
     ensures answer { result ≢ 11 → result ≢ 12 → (result ≡ 14 → ¬ (Rose (S.faults shelf.old) (S.faults shelf.new))) → Told (S.files shelf.old) (λ files. (text : List ℕ) × IsAnswer files (map string_bytes words.now) result text × (S.printed shelf.new ≡ appended (S.printed shelf.old) text)) }
+
+    // A compiled program never ends as a foreign image may.
+    ensures own { result ≢ 8 }
 
     // Where the outside fails, and where a file is too long.
     ensures failed { result ≡ 11 → Rose (S.faults shelf.old) (S.faults shelf.new) }

@@ -60,11 +60,14 @@ pub fn run_source(alloc: Global, source: &[u8], script: &Script) -> Result<Repor
     })
 }
 
-// Advances the machine to its stop; the entries of all its advances.
+// Advances the machine to its stop; the entries of all its advances. Each advance without a stop takes time, so the
+// stop comes before the limit is passed.
 #[tactic(auto, unfolding(pdp_machine::specs::Run::advances))]
 fn run_machine(alloc: Global, machine: &mut Machine, limit: u32) -> Result<Vec<Entry>, Memory>
+    requires { machine.old.limit ≡ limit }
     ensures entries { IfOk result (λ entries. entries.items ≡ (advances (limit + 1) machine.old).entries) }
     ensures machine { OnOk result (machine.new ≡ (advances (limit + 1) machine.old).machine) }
+    ensures stopped { OnOk result (IsSome machine.new.stop) }
 {
     let mut entries = Vec::new(alloc);
     for _i in 0..u64::from(limit) + 1 {
@@ -74,7 +77,8 @@ fn run_machine(alloc: Global, machine: &mut Machine, limit: u32) -> Result<Vec<E
             return Ok(entries);
         }
     }
-    Ok(entries)
+    let _time = machine.time();
+    unreachable!()
 }
 
 // The ending of a run: a halt is a trap of the number in word 46, and silence is the end where no process is left.

@@ -20,10 +20,14 @@ use Rattle.pdp_machine.specs.Opening.{opening_machine}
 use Rattle.pdp_machine.specs.Run.{advances, machine_run}
 use Rattle.pdp_machine.specs.Made.{events_made}
 
--- a silent machine waits, and no request is above its priority
+-- a silent machine waits, no request is above its priority, and no event is to come
+pub record IsResting (m : Timed) : Type 0 where
+  pub waits : m.core.waiting ≡ true
+  pub free : is_above (priority_of m.core.ps) (request_of m.devices) ≡ false
+  pub no_event : is_to_come m ≡ false
+
 abbrev pub RestsIfSilent : Timed → Type 0
-RestsIfSilent m =
-    m.stop ≡ Some Silent → (m.core.waiting ≡ true) × (is_above (priority_of m.core.ps) (request_of m.devices) ≡ false)
+RestsIfSilent m = m.stop ≡ Some Silent → IsResting m
 
 by_test : (P : Advanced → Type 0) (b : Bool) (x y : Advanced) → (b ≡ true → P x) → (b ≡ false → P y) → P (if b then x else y)
 by_test P true x y f g = f refl
@@ -43,7 +47,7 @@ rests_running : (m : Timed) (said : List Entry) → m.stop ≡ None → is_above
 unfolding executes idles
 rests_running m said on free =
     by_test Rests m.core.waiting _ _
-    (λ w. by_test Rests (is_to_come m) _ _ (λ _ e. cc (on, e)) (λ _ e. (w, free)))
+    (λ w. by_test Rests (is_to_come m) _ _ (λ _ e. cc (on, e)) (λ none e. record { waits = w; free = free; no_event = none }))
     (λ _ e. absurd (never_silent (effect m.core m.devices said).value e))
 
 rests_turn : (m : Timed) (said : List Entry) → m.stop ≡ None → Rests (turn m said)

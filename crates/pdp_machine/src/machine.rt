@@ -127,6 +127,7 @@ impl Machine {
         ensures entries { result.entries.items ≡ (advance self.old).entries }
         ensures stop { result.stop ≡ (advance self.old).machine.stop }
         ensures later { IsNone result.stop → self.old.time < self.new.time }
+        ensures limit { self.new.limit ≡ self.old.limit }
     {
         let mut entries = ArrayVec::new();
         if self.stop.is_none() {
@@ -244,6 +245,7 @@ impl Machine {
         requires room { array_vec_len entries.old ≤ 5 }
         ensures after { turn self.old entries.old.items ≡ record { machine = self.new; entries = entries.new.items } }
         ensures later { IsNone self.new.stop → self.old.time < self.new.time }
+        ensures limit { self.new.limit ≡ self.old.limit }
     {
         match self.devices.pending() {
             Some(request) if self.core.ps() / 32 % 8 < request.level => self.grant(
@@ -263,6 +265,7 @@ impl Machine {
         requires room { array_vec_len entries.old ≤ 5 }
         ensures after { grants self.old entries.old.items request.vector ≡ record { machine = self.new; entries = entries.new.items } }
         ensures later { IsNone self.new.stop → self.old.time < self.new.time }
+        ensures limit { self.new.limit ≡ self.old.limit }
     {
         let before = self.devices;
         let outcome = interrupt(&mut self.core, &mut self.devices, request, entries);
@@ -278,6 +281,7 @@ impl Machine {
         requires room { array_vec_len entries.old ≤ 5 }
         ensures after { executes self.old entries.old.items ≡ record { machine = self.new; entries = entries.new.items } }
         ensures later { IsNone self.new.stop → self.old.time < self.new.time }
+        ensures limit { self.new.limit ≡ self.old.limit }
     {
         let before = self.devices;
         let outcome = execute(&mut self.core, &mut self.devices, entries);
@@ -291,6 +295,7 @@ impl Machine {
         requires counted { instructions ≤ counted outcome }
         ensures after { self.new ≡ settled before outcome instructions self.old }
         ensures later { IsNone self.new.stop → self.old.time < self.new.time }
+        ensures limit { self.new.limit ≡ self.old.limit }
     {
         self.printer_due = due_after(
             !before.printer.flag,
@@ -322,6 +327,7 @@ impl Machine {
         requires later { IsLater self.old }
         ensures after { (said : List Entry) → idles self.old said ≡ record { machine = self.new; entries = said } }
         ensures later { IsNone self.new.stop → self.old.time < self.new.time }
+        ensures limit { self.new.limit ≡ self.old.limit }
     {
         if self.is_to_come() {
             let limit = u64::from(self.limit);

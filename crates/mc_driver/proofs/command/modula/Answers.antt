@@ -1,7 +1,6 @@
-use Rattle.std.proofs.Common.{◌≡◌, ◌≢◌, ℕ, ◌+◌, List, Option, Some, refl, sym, ap, ◌∙◌, subst, arith, inl, inr}
-use Rattle.mc_shelf.specs.Outside.{Rose, appended, IsPart}
+use Rattle.std.proofs.Common.{refl, sym, ◌∙◌, inr}
 use Rattle.mc_driver.specs.Answer.{no_words, long_source, long_script, texts}
-use Rattle.mc_driver.proofs.Loads.{not_rose, asked_one, same_texts, length_at, not_rose_between, printed_then, part_then, part_of}
+use Rattle.mc_driver.proofs.Loads.{not_rose, asked_one, same_texts, length_at, not_rose_between, printed_then, part_then}
 use Rattle.mc_driver.proofs.command.modula.Goals as goal
 
 pub returns-in_default-clause-cut : goal.returns-in_default-clause-cut

@@ -1,7 +1,5 @@
-use Rattle.std.proofs.Common.{◌≡◌, ℕ, ◌+◌, suc, Option, arith, ap, sym, ◌∙◌}
-use Rattle.pdp_machine.specs.declared.stop.Stop.{Stop}
+use Rattle.std.proofs.Common.{ℕ, arith, ap, sym, ◌∙◌}
 use Rattle.pdp_machine.specs.Timed.{Timed, Advanced}
-use Rattle.pdp_machine.specs.Run.{advances}
 use Rattle.mc_driver.proofs.Ran.{one_more_entries, one_more_machine, ran_to_stop}
 use Rattle.mc_driver.proofs.run.run_machine.Goals as goal
 

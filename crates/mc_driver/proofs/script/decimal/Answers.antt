@@ -1,4 +1,4 @@
-use Rattle.std.proofs.Common.{◌≡◌, ℕ, ◌+◌, ◌*◌, min, refl, sym, ◌∙◌, ap, arith, false, true}
+use Rattle.std.proofs.Common.{ℕ, ◌+◌, ◌*◌, min, refl, sym, ◌∙◌, ap}
 use Rattle.std.proofs.lemmas.Bool.{false≢true}
 use Rattle.mc_driver.proofs.Digits.{digit_at, digits-more, value-more}
 use Rattle.mc_driver.proofs.script.decimal.Goals as goal
