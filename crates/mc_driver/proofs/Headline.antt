@@ -59,20 +59,31 @@ trap_is (Some (Reserved w)) t l n e = cc
 trap_is (Some Silent) t l n e = elim (chosen (l == 0) End Stuck) [ inl h ↦ cc (h.0, e) | inr h ↦ cc (h.0, e) ]
 trap_is (Some Limit) t l n e = cc
 
--- the statuses of the endings that a compiled program can have
-pub status_is : (e : Ending) → IsProgramEnding e → (status_of e ≢ 11) × (status_of e ≢ 12) × (status_of e ≢ 14) × (status_of e ≢ 8)
-status_is End h = (λ x. omega arith, λ x. omega arith, λ x. omega arith, λ x. omega arith)
-status_is Stuck h = (λ x. omega arith, λ x. omega arith, λ x. omega arith, λ x. omega arith)
-status_is (Trap n) h =
+-- the statuses of endings are not those of other answers
+pub plain_status : (e : Ending) → (status_of e ≢ 11) × (status_of e ≢ 12) × (status_of e ≢ 14)
+plain_status End = (λ x. omega arith, λ x. omega arith, λ x. omega arith)
+plain_status Stuck = (λ x. omega arith, λ x. omega arith, λ x. omega arith)
+plain_status (Trap n) =
     elim (leb_tells n 7) [
-      | inl k ↦ rw k.0 (λ x. omega arith, λ x. omega arith, λ x. omega arith, λ x. omega arith)
-      | inr k ↦ rw k.0 (λ x. omega arith, λ x. omega arith, λ x. omega arith, λ x. omega arith)
+      | inl k ↦ rw k.0 (λ x. omega arith, λ x. omega arith, λ x. omega arith)
+      | inr k ↦ rw k.0 (λ x. omega arith, λ x. omega arith, λ x. omega arith)
     ]
-status_is LimitEnding h = (λ x. omega arith, λ x. omega arith, λ x. omega arith, λ x. omega arith)
-status_is HaltEnding h = absurd h
-status_is (BusFaultEnding a) h = absurd h
-status_is (ReservedEnding w) h = absurd h
-status_is SilentEnding h = absurd h
+plain_status LimitEnding = (λ x. omega arith, λ x. omega arith, λ x. omega arith)
+plain_status HaltEnding = (λ x. omega arith, λ x. omega arith, λ x. omega arith)
+plain_status (BusFaultEnding a) = (λ x. omega arith, λ x. omega arith, λ x. omega arith)
+plain_status (ReservedEnding w) = (λ x. omega arith, λ x. omega arith, λ x. omega arith)
+plain_status SilentEnding = (λ x. omega arith, λ x. omega arith, λ x. omega arith)
+
+-- a compiled program never ends as a foreign image may
+pub own_status : (e : Ending) → IsProgramEnding e → status_of e ≢ 8
+own_status End h = λ x. omega arith
+own_status Stuck h = λ x. omega arith
+own_status (Trap n) h = elim (leb_tells n 7) [ inl k ↦ rw k.0 (λ x. omega arith) | inr k ↦ rw k.0 (λ x. omega arith) ]
+own_status LimitEnding h = λ x. omega arith
+own_status HaltEnding h = absurd h
+own_status (BusFaultEnding a) h = absurd h
+own_status (ReservedEnding w) h = absurd h
+own_status SilentEnding h = absurd h
 
 module _ (program : Program) (bounds : Bounds) (image : ImageState) (script : ScriptState) where
   abbrev last : Advanced

@@ -1,4 +1,4 @@
 pub mod Headline
 pub mod Ran
-pub mod Digits
-pub mod Loads
+pub mod Streams
+pub mod Endings

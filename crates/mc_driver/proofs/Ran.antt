@@ -1,5 +1,6 @@
 -- Advances up to a stop are the whole run.
-use Rattle.std.proofs.Common.{◌≡◌, ℕ, suc, ◌+◌, ◌-◌, ◌<◌, true, List, ◌++◌, Option, Some, None, sym, ap, ◌∙◌, arith}
+use Rattle.std.proofs.lemmas.List.{append-nil}
+use Rattle.std.proofs.Common.{append_assoc, zero, [], ◌≡◌, ℕ, suc, ◌+◌, ◌-◌, ◌<◌, true, List, ◌++◌, Option, Some, None, sym, ap, ◌∙◌, arith}
 use Rattle.std.specs.Prelude.{is_some}
 use Rattle.pdp_dev.specs.declared.entry.Entry.{Entry}
 use Rattle.pdp_machine.specs.declared.stop.Stop.{Stop}
@@ -21,3 +22,15 @@ ran_to_stop m i limit None h e s = cc
 ran_to_stop m i limit (Some stop) h e s =
     let n : (limit - i) + suc i ≡ limit + 1 = omega arith in
     sym (advances-stopped (suc i) (limit - i) m stop e) ∙ ap (λ (k : ℕ). advances k m) n
+
+-- more advances only add entries
+pub advances_grow : (n k : ℕ) (m : Timed) → (rest : List Entry) × ((advances (k + n) m).entries ≡ (advances n m).entries ++ rest)
+unfolding advances
+advances_grow n zero m =
+    let e : zero + n ≡ n = omega arith in
+    ([], ap (λ (j : ℕ). (advances j m).entries) e ∙ sym (append-nil (advances n m).entries))
+advances_grow n (suc k) m =
+    let e : suc k + n ≡ suc (k + n) = omega arith in
+    let g = advances_grow n k m in
+    let a : List Entry = (advance (advances (k + n) m).machine).entries in
+    (g.0 ++ a, ap (λ (j : ℕ). (advances j m).entries) e ∙ ap (λ (l : List Entry). l ++ a) g.1 ∙ append_assoc (advances n m).entries g.0 a)

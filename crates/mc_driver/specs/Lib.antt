@@ -1,4 +1,4 @@
-pub mod Words
-pub mod Script
 pub mod Run
+pub mod Refusal
+pub mod Outside
 pub mod Answer

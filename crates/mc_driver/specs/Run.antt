@@ -6,7 +6,7 @@ use Rattle.mc_image.specs.Image.{ImageState}
 use Rattle.mc_script.specs.Script.{ScriptState}
 use Rattle.pdp_machine.specs.declared.stop.Stop.{Stop}
 use Rattle.pdp_machine.specs.declared.stop.Stop.TheVariants.{Halt, BusFault, Reserved, Silent, Limit}
-use Rattle.pdp_machine.specs.Timed.{Timed, is_to_come}
+use Rattle.pdp_machine.specs.Timed.{Timed, Advanced, is_to_come}
 use Rattle.pdp_machine.specs.Run.{machine_run}
 use Rattle.pdp_machine.specs.Made.{state}
 use Rattle.mc_report.specs.declared.ending.Ending.{Ending}
@@ -16,6 +16,8 @@ use Rattle.mc_prog.specs.Program.{Program}
 use Rattle.mc_meaning.specs.Config.{Config, opening_config}
 use Rattle.mc_meaning.specs.Runs.{config_after, IsTrapped, IsQuiet, IsEnded, IsStuck}
 use Rattle.mc_straight.specs.Form.{program_of, size_of}
+use Rattle.mc_driver.specs.declared.ending.Origin.{Origin}
+use Rattle.mc_driver.specs.declared.ending.Origin.TheVariants.{Compiled as CompiledOrigin, Foreign}
 use Rattle.mc_compile.specs.Tracks.{Bounds, opened, Traps, Tracked, CompiledFrom}
 
 -- words 46 and 50 (octal) of a machine
@@ -49,6 +51,34 @@ status_of SilentEnding = 8
 
 abbrev pub ending : Timed → Ending
 ending m = ending_of m.stop (trap_word m) (live_word m)
+
+-- the ending of a foreign image's run: the machine's stop as it is
+abbrev pub stop_ending : Option Stop → Ending
+stop_ending None = SilentEnding
+stop_ending (Some Halt) = HaltEnding
+stop_ending (Some (BusFault a)) = BusFaultEnding a
+stop_ending (Some (Reserved w)) = ReservedEnding w
+stop_ending (Some Silent) = SilentEnding
+stop_ending (Some Limit) = LimitEnding
+
+-- the ending of an image's run, by where the image comes from
+abbrev pub ending_at : Origin → Option Stop → ℕ → ℕ → Ending
+ending_at CompiledOrigin stop trap live = ending_of stop trap live
+ending_at Foreign stop trap live = stop_ending stop
+
+abbrev pub ending_for : Origin → Timed → Ending
+ending_for origin m = ending_at origin m.stop (trap_word m) (live_word m)
+
+-- the report of a run
+abbrev pub text_of : Origin → Bool → Advanced → List ℕ
+text_of origin journal run = report_of run.entries run.machine.instructions (ending_for origin run.machine) journal
+
+-- The text is the report of the machine's run of an image, and the status says how it ended.
+pub record IsReport (origin : Origin) (journal : Bool) (image : ImageState) (script : ScriptState) (status : ℕ) (text : List ℕ) : Type 0 where
+  -- the machine stops: each advance without a stop takes time
+  pub stops : IsSome (machine_run image script).machine.stop
+  pub text_is : text ≡ text_of origin journal (machine_run image script)
+  pub status_is : status ≡ status_of (ending_for origin (machine_run image script).machine)
 
 -- the endings that a compiled program can have
 abbrev pub IsProgramEnding : Ending → Type 0
@@ -85,12 +115,9 @@ pub record IsRunOfProgram (program : Program) (bounds : Bounds) (image : ImageSt
   pub tracking : Tracking (Tracked program bounds image) moments
   pub ends_as : EndsAs program bounds (machine_run image script).machine (config_after program (opening_config program) tracking.run)
 
--- the text is the report of the machine run of an image that is compiled from the source
-pub record IsRunOf (source : List ℕ) (script : ScriptState) (status : ℕ) (text : List ℕ) : Type 0 where
+-- the text is the report of the machine's run of an image that is compiled from the source
+pub record IsRunOf (source : List ℕ) (script : ScriptState) (journal : Bool) (status : ℕ) (text : List ℕ) : Type 0 where
   pub image : ImageState
   pub compiled : CompiledFrom source 200 16 image
-  -- the machine stops: each advance without a stop takes time
-  pub stops : IsSome (machine_run image script).machine.stop
-  pub text_is : text ≡ report_of (machine_run image script).entries (machine_run image script).machine.instructions (ending (machine_run image script).machine) false
-  pub status_is : status ≡ status_of (ending (machine_run image script).machine)
+  pub report : IsReport CompiledOrigin journal image script status text
   pub meaning : IsRunOfProgram (program_of compiled.form) (record { workspace = 200; processes = 16; size = size_of compiled.accepted.tokens }) image script

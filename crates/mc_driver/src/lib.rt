@@ -2,10 +2,13 @@
 #![tactic(auto)]
 
 mod command;
+mod drive;
+mod ending;
+mod files;
+mod refusal;
 mod run;
-mod script;
+mod status;
 #[cfg(test)]
 mod tests;
-mod words;
 
 pub use command::modula;

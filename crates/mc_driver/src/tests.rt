@@ -86,13 +86,13 @@ fn answers_sources_and_scripts(rt: HostRuntime) -> Result<(), Fail> {
             "print 101\nlost printer 102\ninstructions 6\nend\n",
         ),
         (PUNCHES_A, "", 0, "punch 101\ninstructions 5\nend\n"),
-        (PRINTS_A, "limit 0", 15, "not yet script\n"),
-        (PRINTS_A, "limit 20000001", 15, "not yet script\n"),
-        (PRINTS_A, "limit 1 ", 15, "not yet script\n"),
-        (PRINTS_A, "limit 1\n\n", 15, "not yet script\n"),
-        (PRINTS_A, "\n", 15, "not yet script\n"),
-        (PRINTS_A, "at 5 key 9", 15, "not yet script\n"),
-        ("(* a", "limit 0", 15, "not yet script\n"),
+        (PRINTS_A, "limit 0", 3, "script 1 OutOfRange\n"),
+        (PRINTS_A, "limit 20000001", 3, "script 1 OutOfRange\n"),
+        (PRINTS_A, "limit 1\n\nlimit 1\n", 3, "script 3 Twice\n"),
+        (PRINTS_A, "at 5 key 101\nat 5 key 102", 3, "script 2 Backwards\n"),
+        (PRINTS_A, "; nothing\nlimits 1", 3, "script 2 BadLine\n"),
+        ("(* a", "limit 0", 3, "script 1 OutOfRange\n"),
+        (PRINTS_A, "\n", 0, PRINTED_A),
         ("module m; begin end m.", "", 15, "not yet source\n"),
         ("(* a", "", 15, "not yet source\n"),
         ("'", "", 15, "not yet source\n"),
@@ -121,29 +121,29 @@ fn answers_sources_and_scripts(rt: HostRuntime) -> Result<(), Fail> {
 #[test]
 fn answers_words(rt: HostRuntime) -> Result<(), Fail> {
     let alloc = rt.alloc();
-    for command in [
-        "",
-        "run",
-        "run a",
-        "run -x b",
-        "run a --",
-        "run a b c",
-        "exec a b",
-        "Run a b",
-        "a b run",
+    for (command, status, line) in [
+        ("", 1, "words\n"),
+        ("run a", 1, "words\n"),
+        ("run a --", 1, "words\n"),
+        ("run a b c", 1, "words\n"),
+        ("exec a b --settings c", 1, "words\n"),
+        ("run a b --settings c", 15, "not yet words\n"),
+        ("compile a b", 15, "not yet words\n"),
+        ("check a", 15, "not yet words\n"),
+        ("generate 26", 15, "not yet words\n"),
     ] {
         let words = words(alloc, command)?;
         // The words come before the files, which would be refused too.
         let mut shelf = shelf(alloc, b"(* a", b"limit 0", &[])?;
-        assert_eq!(rt; modula(alloc, &words, &mut shelf), 15, "at {command}");
-        assert_eq!(rt;
-            shelf.printed(),
-            b"not yet words\n".as_slice(),
-            "at {command}"
-        );
+        assert_eq!(rt; modula(alloc, &words, &mut shelf), status, "at {command}");
+        assert_eq!(rt; shelf.printed(), line.as_bytes(), "at {command}");
         assert!(rt; shelf.asked().is_empty(), "at {command}");
     }
-    for (command, names) in [("run a b", ["a", "b"]), ("run - b", ["-", "b"])] {
+    for (command, names) in [
+        ("run a b", ["a", "b"]),
+        ("run - b", ["-", "b"]),
+        ("run -- a b", ["a", "b"]),
+    ] {
         let words = words(alloc, command)?;
         let mut shelf = shelf(alloc, PRINTS_A.as_bytes(), b"", &[])?;
         assert_eq!(rt; modula(alloc, &words, &mut shelf), 0, "at {command}");
@@ -176,26 +176,99 @@ fn answers_calls_that_fail(rt: HostRuntime) -> Result<(), Fail> {
     Ok(())
 }
 
+/// The image of 22 bytes that prints 101 and halts: MOV #101, @#177566; HALT.
+const HALTS: [u8; 22] = [
+    0o001, 0, 0o016, 0, 0, 0o002, 0o337, 0o025, 0o101, 0, 0o166, 0o377, 0, 0, 0o105, 0o001, 0, 0o006, 0, 0, 0o002, 0o367,
+];
+
+#[test]
+fn answers_images(rt: HostRuntime) -> Result<(), Fail> {
+    let alloc = rt.alloc();
+    let exec = words(alloc, "exec a b")?;
+    let mut other_sum = HALTS;
+    other_sum[14] = 0;
+    for (image, script, status, text) in [
+        (HALTS.as_slice(), "", 8, "print 101\ninstructions 2\nhalt\n"),
+        (HALTS.as_slice(), "limit 2", 8, "print 101\ninstructions 2\nhalt\n"),
+        (HALTS.as_slice(), "limit 1", 7, "print 101\ninstructions 1\nlimit\n"),
+        (HALTS.as_slice(), "limit x", 3, "script 1 BadLine\n"),
+        (&HALTS[..15], "", 4, "image NoStart\n"),
+        (&HALTS[..14], "limit x", 4, "image 0 Truncated\n"),
+        (other_sum.as_slice(), "", 4, "image 0 BadSum\n"),
+        (b"\0\0\x02", "", 4, "image 2 BadHeader\n"),
+        (b"", "", 4, "image NoStart\n"),
+    ] {
+        let mut shelf = shelf(alloc, image, script.as_bytes(), &[])?;
+        assert_eq!(rt; modula(alloc, &exec, &mut shelf), status, "at {text}");
+        assert_eq!(rt; shelf.printed(), text.as_bytes(), "at {text}");
+    }
+    // An image is refused before its script is loaded.
+    let mut refused = shelf(alloc, b"", b"", &[])?;
+    assert_eq!(rt; modula(alloc, &exec, &mut refused), 4);
+    assert!(rt; are_loads(refused.asked(), &["a"]));
+
+    // The bytes at 1000 octal are no instruction: it faults, and is not counted.
+    let reserved = [1, 0, 8, 0, 0, 2, 7, 0, 0o356, 1, 0, 6, 0, 0, 2, 0o367];
+    let mut shelf = shelf(alloc, &reserved, b"", &[])?;
+    assert_eq!(rt; modula(alloc, &exec, &mut shelf), 8);
+    assert_eq!(rt;
+        shelf.printed(),
+        b"instructions 0\nreserved 000007\n".as_slice()
+    );
+    Ok(())
+}
+
+#[test]
+fn shows_events_with_the_journal(rt: HostRuntime) -> Result<(), Fail> {
+    let alloc = rt.alloc();
+    let run = words(alloc, "run --journal a b")?;
+    // The key comes at its time, and the printer is ready 300 after its byte was written at time 1.
+    let mut shelf = shelf(alloc, PRINTS_A.as_bytes(), b"at 400 key 101\n", &[])?;
+    assert_eq!(rt; modula(alloc, &run, &mut shelf), 0);
+    assert_eq!(rt;
+        shelf.printed(),
+        b"print 101\nevent printer\nevent key 101\ninstructions 5\nend\n".as_slice()
+    );
+    Ok(())
+}
+
+/// An image that writes the printer again and again: MOV #101, @#177566; BR back.
+const LOSES: [u8; 22] = [
+    1, 0, 14, 0, 0, 2, 0o337, 0o025, 0o101, 0, 0o166, 0o377, 0o374, 1, 72, 1, 0, 6, 0, 0, 2, 0o367,
+];
+
+#[test]
+fn prints_in_pieces(rt: HostRuntime) -> Result<(), Fail> {
+    let alloc = rt.alloc();
+    let exec = words(alloc, "exec a b")?;
+    // Of 1000 writes those at the times 0, 300, 600 and so on are printed, with lines of 10 bytes; the others are lost,
+    // with lines of 17.
+    // The second print, which is the fourth call, prints half of its piece where it fails.
+    for (failing, status, printed) in [(0, 7, 7 * 10 + 993 * 17 + 18 + 6), (4, 11, 4_096 + 2_048)] {
+        let mut shelf = shelf(alloc, &LOSES, b"limit 2000", &[failing])?;
+        assert_eq!(rt; modula(alloc, &exec, &mut shelf), status);
+        assert_eq!(rt; shelf.printed().len(), printed);
+    }
+    Ok(())
+}
+
 #[test]
 fn answers_files_that_are_too_long(rt: HostRuntime) -> Result<(), Fail> {
     let alloc = rt.alloc();
-    let run = words(alloc, "run a b")?;
-    let longest: Vec<u8> = vec![in alloc; b' '; 262_144]?;
-    let mut source = shelf(alloc, longest.as_slice(), b"", &[])?;
-    assert_eq!(rt; modula(alloc, &run, &mut source), 15);
-    assert_eq!(rt; source.printed(), b"not yet source\n".as_slice());
-
-    let longer: Vec<u8> = vec![in alloc; b' '; 262_145]?;
-    let mut source = shelf(alloc, longer.as_slice(), b"limit 0", &[])?;
-    assert_eq!(rt; modula(alloc, &run, &mut source), 14);
-    assert_eq!(rt; source.printed(), b"too long source\n".as_slice());
-    assert!(rt; are_loads(source.asked(), &["a"]));
-
-    let longer: Vec<u8> = vec![in alloc; b' '; 1_048_577]?;
-    let mut script = shelf(alloc, b"(* a", longer.as_slice(), &[])?;
-    assert_eq!(rt; modula(alloc, &run, &mut script), 14);
-    assert_eq!(rt; script.printed(), b"too long script\n".as_slice());
-    assert!(rt; are_loads(script.asked(), &["a", "b"]));
+    for (command, source, script, status, text, loads) in [
+        ("run a b", 262_144, 0, 15, "not yet source\n", 2),
+        ("run a b", 262_145, 1, 14, "too long source\n", 1),
+        ("run a b", 1, 1_048_577, 14, "too long script\n", 2),
+        ("exec a b", 131_073, 1, 14, "too long image\n", 1),
+    ] {
+        let words = words(alloc, command)?;
+        let source: Vec<u8> = vec![in alloc; b' '; source]?;
+        let script: Vec<u8> = vec![in alloc; b' '; script]?;
+        let mut shelf = shelf(alloc, source.as_slice(), script.as_slice(), &[])?;
+        assert_eq!(rt; modula(alloc, &words, &mut shelf), status, "at {text}");
+        assert_eq!(rt; shelf.printed(), text.as_bytes(), "at {text}");
+        assert_eq!(rt; shelf.asked().len(), loads, "at {text}");
+    }
     Ok(())
 }
 

@@ -1,1 +1,10 @@
 pub mod Script
+pub mod Lines
+pub mod Forms
+pub mod Texts
+pub mod Reading
+pub mod FormLaws
+pub mod Steps
+pub mod LineLaws
+pub mod TextLaws
+pub mod Drafts

@@ -1,7 +1,7 @@
 // What a script says, apart from how it is written.
 
 ghost use Rattle.std.specs.Prelude.{◌≡◌, ◌≤◌};
-ghost use Rattle.mc_script.specs.Script.{IsWithin, IsPeriod, AreAfter, plain_script};
+ghost use Rattle.mc_script.specs.Script.{IsWithin, IsPeriod, AreAfter, IsScript, plain_script};
 
 use mc_word::bytes::Bytes;
 use std::alloc::Global;
@@ -13,6 +13,14 @@ pub struct Key {
     /// When, in units of machine time, 1 to 20,000,000.
     pub at: u32,
     pub byte: u8,
+}
+
+/// How long the devices take for a byte.
+#[derive(Clone, Copy, PartialEq, Eq, Debug)]
+pub struct Delays {
+    pub printer: u32,
+    pub reader: u32,
+    pub punch: u32,
 }
 
 /// A script. Times are in units of machine time, of which an instruction takes one.
@@ -58,6 +66,28 @@ impl Script {
             reader: 200,
             punch: 400,
             clock: None,
+            limit,
+        }
+    }
+
+    /// A script with these values, in their ranges. Each key's time is greater than that of the key before it.
+    pub fn new(
+        keys: Vec<Key>,
+        tape: Bytes,
+        delays: Delays,
+        clock: Option<u32>,
+        limit: u32,
+    ) -> Script
+        requires { IsScript (record { keys = keys.items; tape = tape; printer = delays.printer; reader = delays.reader; punch = delays.punch; clock = clock; limit = limit }) }
+        ensures { result ≡ record { keys = keys.items; tape = tape; printer = delays.printer; reader = delays.reader; punch = delays.punch; clock = clock; limit = limit } }
+    {
+        Script {
+            keys,
+            tape,
+            printer: delays.printer,
+            reader: delays.reader,
+            punch: delays.punch,
+            clock,
             limit,
         }
     }

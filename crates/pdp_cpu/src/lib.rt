@@ -2,8 +2,13 @@
 #![tactic(auto)]
 
 pub mod access;
+pub mod compute;
+pub mod control;
 pub mod grant;
 pub mod instruction;
 pub mod locate;
+pub mod operands;
+pub mod registers;
+pub mod signed;
 #[cfg(test)]
 mod tests;

@@ -1,5 +1,5 @@
 -- What a part of an instruction does to the processor, the devices and the journal.
-use Rattle.std.specs.Prelude.{◌≡◌, ℕ, ◌/◌, ◌%◌, ◌==◌, nat_lt, Bool, true, false, List, [], ◌∷◌, ◌++◌, Option, Some, None, Result, Ok, Err, if◌then◌else◌, slice_index, slice_set}
+use Rattle.std.specs.Prelude.{◌≡◌, ℕ, ◌-◌, ◌/◌, ◌%◌, ◌==◌, nat_lt, Bool, true, false, List, [], ◌∷◌, ◌++◌, Option, Some, None, Result, Ok, Err, if◌then◌else◌, slice_index, slice_set}
 use Rattle.pdp_dev.specs.declared.devices.Devices.{Devices}
 use Rattle.pdp_dev.specs.declared.register.Register.{Register}
 use Rattle.pdp_dev.specs.declared.entry.Entry.{Entry}
@@ -7,7 +7,7 @@ use Rattle.pdp_dev.specs.Register.{register_at}
 use Rattle.pdp_dev.specs.Devices.{read_of, after_read, written, said_at}
 use Rattle.pdp_def.specs.declared.outcome.Outcome.{Outcome}
 use Rattle.pdp_def.specs.declared.outcome.Outcome.TheVariants.{BusFault}
-use Rattle.pdp_def.specs.State.{CoreState}
+use Rattle.pdp_def.specs.State.{CoreState, byte_of, with_byte}
 
 -- the state that an instruction works on, with the journal so far
 pub record Bus : Type 0 where
@@ -96,6 +96,26 @@ put_word a w b =
 
 unfoldable pub write_word : ℕ → ℕ → Does (Unit {0})
 write_word a w b = if is_bad a then Err (BusFault a) else Ok (record { value = tt; bus = put_word a w b })
+
+-- the high half of a device register's word, which its device does not notice
+abbrev pub read_high : ℕ → Option Register → Does ℕ
+read_high a (Some r) b = gives (read_of b.devices r / 256) b
+read_high a None b = Err (BusFault a)
+
+-- the byte at an address: in memory half of its word; above, at an even address the low half of a read of the word, at
+-- an odd one the high half of the word around it, without a read's effect
+unfoldable pub read_byte : ℕ → Does ℕ
+read_byte a b =
+    if nat_lt a 0o160000 then gives (byte_of b.core.memory a) b
+    else (if a % 2 == 0 then (read_word a >>= (λ w. gives (w % 256))) b
+    else (if a == 0o177777 then gives (b.core.ps / 256) b else read_high a (register_at (a - 1)) b))
+
+-- a byte is written: in memory into its half; above, at an even address as a word, and at an odd one nothing happens
+unfoldable pub write_byte : ℕ → ℕ → Does (Unit {0})
+write_byte a v b =
+    if nat_lt a 0o160000 then goes_on (record b.core { memory = with_byte b.core.memory a (v % 256) }) b
+    else (if a % 2 == 0 then write_word a (v % 256) b
+    else (if is_bad (a - 1) then Err (BusFault a) else gives tt b))
 
 -- nothing but the registers has changed
 abbrev pub Kept : CoreState → CoreState → Type 0

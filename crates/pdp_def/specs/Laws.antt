@@ -4,13 +4,15 @@ use Rattle.std.proofs.Common.{◌∙◌, subst, arith, get_or-set_other}
 use Rattle.std.proofs.lemmas.Bool.{ne_eqb, lt-ltb}
 use Rattle.pdp_dev.specs.declared.devices.Devices.{Devices}
 use Rattle.pdp_dev.specs.declared.entry.Entry.{Entry}
+use Rattle.pdp_isa.specs.Table.{instruction_of}
 use Rattle.pdp_def.specs.declared.outcome.Outcome.{Outcome}
 use Rattle.pdp_def.specs.declared.outcome.Outcome.TheVariants.{Ran, Idle}
 use Rattle.pdp_def.specs.declared.operand.Place.TheVariants.{InMemory}
 use Rattle.pdp_def.specs.State.{CoreState}
-use Rattle.pdp_def.specs.Does.{bus, Access, then_do, ◌>>◌, gives, read_word, write_word}
-use Rattle.pdp_def.specs.Operands.{step_on, locate, fetch, put}
-use Rattle.pdp_def.specs.Perform.{sets, moved_codes, moves, performs, attempt}
+use Rattle.pdp_def.specs.Does.{bus, Access, then_do, ◌>>◌, gives, is_bad, read_word, put_word, write_word}
+use Rattle.pdp_def.specs.Operands.{step_on, address, locate, fetch, put, put_moved}
+use Rattle.pdp_def.specs.Codes.{moved_codes}
+use Rattle.pdp_def.specs.Perform.{sets, moves, row, performs, attempt}
 
 -- these words stand in memory from a place on; the word at address 2 * i has place i
 abbrev pub HasAt : List ℕ → ℕ → List ℕ → Type 0
@@ -47,13 +49,22 @@ read_law a k w c d said e h is =
     let half : a / 2 ≡ k = omega arith in
     rw (ne_eqb (a % 2) 1 even, lt-ltb a 0o160000 low, half, is) refl
 
+-- a word is written into memory
+pub write_law : (a k w : ℕ) (c : CoreState) (d : Devices) (said : List Entry) → a ≡ 2 * k → k < 28672 → write_word a w (bus c d said) ≡ Ok (record { value = tt; bus = bus (record c { memory = slice_set c.memory k w }) d said })
+unfolding write_word is_bad put_word
+write_law a k w c d said e h =
+    let even : a % 2 ≢ 1 = omega arith in
+    let low : a < 0o160000 = omega arith in
+    let half : a / 2 ≡ k = omega arith in
+    rw (ne_eqb (a % 2) 1 even, lt-ltb a 0o160000 low, half) refl
+
 -- what is left of a move after its word is written
 abbrev pub move_ends : ℕ → ℕ → Access (Unit {0}) → Access Outcome
 move_ends a w r = then_do r (λ _. sets (InMemory a) (moved_codes w) >> gives Ran)
 
 -- MOV #w, @#a
 pub move_law : (n w a r0 r1 r2 r3 r4 r5 sp ps : ℕ) (m : List ℕ) (d : Devices) (said : List Entry) (rest : List ℕ) → n + 3 ≤ 28672 → HasAt m n (0o012737 ∷ w ∷ a ∷ rest) → attempt (bus (core_of r0 r1 r2 r3 r4 r5 sp (2 * n) ps m) d said) ≡ move_ends a w (write_word a w (bus (core_of r0 r1 r2 r3 r4 r5 sp (2 * (n + 3)) ps m) d said))
-unfolding attempt performs step_on locate fetch put moves
+unfolding attempt performs row instruction_of step_on address locate fetch put put_moved moves
 move_law n w a r0 r1 r2 r3 r4 r5 sp ps m d said rest h has =
     let c1 = core_of r0 r1 r2 r3 r4 r5 sp (2 * (n + 1)) ps m in
     let c2 = core_of r0 r1 r2 r3 r4 r5 sp (2 * (n + 1 + 1)) ps m in
@@ -65,7 +76,7 @@ move_law n w a r0 r1 r2 r3 r4 r5 sp ps m d said rest h has =
 
 -- WAIT
 pub wait_law : (n r0 r1 r2 r3 r4 r5 sp ps : ℕ) (m : List ℕ) (d : Devices) (said : List Entry) (rest : List ℕ) → n + 1 ≤ 28672 → HasAt m n (1 ∷ rest) → attempt (bus (core_of r0 r1 r2 r3 r4 r5 sp (2 * n) ps m) d said) ≡ Ok (record { value = Idle; bus = bus (record (core_of r0 r1 r2 r3 r4 r5 sp (2 * (n + 1)) ps m) { waiting = true }) d said })
-unfolding attempt performs step_on
+unfolding attempt performs row instruction_of step_on
 wait_law n r0 r1 r2 r3 r4 r5 sp ps m d said rest h has =
     let c1 = core_of r0 r1 r2 r3 r4 r5 sp (2 * (n + 1)) ps m in
     let e1 : (2 * n + 2) % 65536 ≡ 2 * (n + 1) = omega arith in

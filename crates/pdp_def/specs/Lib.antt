@@ -1,5 +1,9 @@
 pub mod State
 pub mod Does
+pub mod Codes
+pub mod Signed
+pub mod SignedLaws
+pub mod ShiftLaws
 pub mod Operands
 pub mod Perform
 pub mod Interrupt

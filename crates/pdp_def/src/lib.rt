@@ -2,5 +2,6 @@
 #![tactic(auto)]
 
 pub mod operand;
+pub mod operation;
 pub mod outcome;
 pub mod processor;

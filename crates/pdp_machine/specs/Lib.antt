@@ -5,3 +5,5 @@ pub mod Put
 pub mod Run
 pub mod Made
 pub mod Silence
+pub mod Times
+pub mod Stopping

@@ -5,7 +5,7 @@ ghost use Rattle.arrayvec.specs.ArrayVec.{array_vec_len};
 ghost use Rattle.pdp_dev.specs.declared.entry.Entry.{Entry};
 ghost use Rattle.pdp_def.specs.Moments.{counted};
 ghost use Rattle.pdp_machine.specs.Opening.{opening_machine};
-ghost use Rattle.pdp_machine.specs.Timed.{IsAhead, AreAhead, IsLater, advance, turn, grants, executes, settled, idles, is_to_come, next_event, with_events, reader_comes, punch_comes, key_comes, printer_comes, clock_comes};
+ghost use Rattle.pdp_machine.specs.Timed.{IsTimed, IsAhead, AreAhead, IsLater, advance, turn, grants, executes, settled, idles, is_to_come, next_event, with_events, reader_comes, punch_comes, key_comes, printer_comes, clock_comes};
 
 use crate::due::{due_after, earlier, is_due, is_tick, next_tick};
 use crate::opening::open_core;
@@ -68,7 +68,8 @@ impl Model for Machine {
 impl Machine {
     /// The machine at opening with an image, which a script drives.
     pub fn open(alloc: Global, image: &Image, script: &Script) -> Result<Machine, Memory>
-        ensures { IfOk result (λ m. m ≡ opening_machine image.now script.now) }
+        ensures value { IfOk result (λ m. m ≡ opening_machine image.now script.now) }
+        ensures timed { IfOk result IsTimed }
     {
         Ok(Machine {
             core: open_core(alloc, image)?,
@@ -95,6 +96,13 @@ impl Machine {
         ensures within { result ≤ self.now.limit }
     {
         self.time
+    }
+
+    /// The time at which the machine is stopped, at most 20,000,000.
+    pub fn limit(&self) -> u32
+        ensures { result ≡ self.now.limit }
+    {
+        self.limit
     }
 
     /// How many instructions were executed.

@@ -1,62 +1,24 @@
-use Rattle.std.proofs.Common.{refl, sym, ◌∙◌, inr}
-use Rattle.mc_driver.specs.Answer.{no_words, long_source, long_script, texts}
-use Rattle.mc_driver.proofs.Loads.{not_rose, asked_one, same_texts, length_at, not_rose_between, printed_then, part_then}
+use Rattle.std.proofs.Common.{◌≡◌, [], refl, sym, ◌∙◌, subst, arith, ap, Option, Some, None, map}
+use Rattle.std.specs.Prelude.{codes, string_bytes}
+use Rattle.mc_words.specs.Commands.{Order, command_of}
+use Rattle.mc_driver.specs.Outside.{View, view, Ends}
+use Rattle.mc_driver.specs.Answer.{AnswersTo, IsLine, loads_of}
+use Rattle.mc_driver.proofs.Endings.{says_ends}
 use Rattle.mc_driver.proofs.command.modula.Goals as goal
 
-pub returns-in_default-clause-cut : goal.returns-in_default-clause-cut
-returns-in_default-clause-cut g c e room f told = inr (15, _, no_words c.in_default.ensures refl refl, (c.say.ensures.failed e).1)
+pub returns-in-Ok-clause-ends : goal.returns-in-Ok-clause-ends
+returns-in-Ok-clause-ends g c =
+    let S = g.S.Shelf in
+    let v : View = view (S.files c.args.shelf.now) (S.printed c.args.shelf.now) (S.asked c.args.shelf.now) (S.spare c.args.shelf.now) (S.faults c.args.shelf.now) (S.longs c.args.shelf.now) in
+    let w : View = view (S.files c.obey.new.shelf) (S.printed c.obey.new.shelf) (S.asked c.obey.new.shelf) (S.spare c.obey.new.shelf) (S.faults c.obey.new.shelf) (S.longs c.obey.new.shelf) in
+    subst (λ (o : Option Order). Ends v (loads_of o) (AnswersTo o) c.obey.result w) (sym c.in-Ok.ensures.ok) c.obey.ensures.ends
 
-pub returns-in-Err-Failed-clause-asked : goal.returns-in-Err-Failed-clause-asked
-returns-in-Err-Failed-clause-asked g c a told = asked_one _ _ _ _ a c.in-Some.ensures told (c.in-Err-Failed.ensures.asked (λ e. cc))
-
-pub returns-in-Err-TooLong-clause-asked : goal.returns-in-Err-TooLong-clause-asked
-returns-in-Err-TooLong-clause-asked g c a told = asked_one _ _ _ _ a c.in-Some.ensures told (c.say-in-Err-TooLong.ensures.asked ∙ c.in-Err-TooLong.ensures.asked (λ e. cc))
-
-pub returns-in-Err-Memory-load-clause-asked : goal.returns-in-Err-Memory-load-clause-asked
-returns-in-Err-Memory-load-clause-asked g c a told = asked_one _ _ _ _ a c.in-Some.ensures told (c.in-Err-Memory-load.ensures.unasked (cc) ∙ c.in-Ok.ensures.asked (λ e. cc))
-
-pub returns-in-Err-TooLong-clause-answer : goal.returns-in-Err-TooLong-clause-answer
-returns-in-Err-TooLong-clause-answer g c no11 no12 calm f told =
-    let said = c.say-in-Err-TooLong.ensures.said no11 no12 in
-    let free = not_rose_between _ _ _ _ refl (sym (c.say-in-Err-TooLong.ensures.same no11)) (calm said.0) in
-    let long = (c.in-Err-TooLong.ensures.exactly_long free (λ e. cc) f told).0 (cc) in
-    (_, long_source _ c.in-Some.ensures long said.0 refl, printed_then _ _ _ _ said.1 c.in-Err-TooLong.ensures.printed)
-
-pub returns-in-Err-TooLong-clause-cut : goal.returns-in-Err-TooLong-clause-cut
-returns-in-Err-TooLong-clause-cut g c e room f told =
-    let free = not_rose _ _ (c.in-Err-TooLong.ensures.faults_same (λ e. cc)) room in
-    let long = (c.in-Err-TooLong.ensures.exactly_long free (λ e. cc) f told).0 (cc) in
-    inr (14, _, long_source _ c.in-Some.ensures long refl refl, part_then _ _ _ _ (c.say-in-Err-TooLong.ensures.failed e).1 c.in-Err-TooLong.ensures.printed)
-
-pub returns-in-Err-TooLong-load-clause-answer : goal.returns-in-Err-TooLong-load-clause-answer
-returns-in-Err-TooLong-load-clause-answer g c no11 no12 calm f told =
-    let said = c.say-in-Err-TooLong-load.ensures.said no11 no12 in
-    let before = c.in-Ok.ensures.faults_same (λ e. cc) in
-    let free = not_rose_between _ _ _ _ before (sym (c.say-in-Err-TooLong-load.ensures.same no11)) (calm said.0) in
-    let long = (c.in-Err-TooLong-load.ensures.exactly_long free (λ e. cc) f (c.in-Ok.ensures.files ∙ told)).0 (cc) in
-    let short = length_at _ _ _ (c.in-Ok.ensures.bytes f told) c.in-Ok.ensures.short in
-    (_, long_script _ c.in-Some.ensures short long said.0 refl, printed_then _ _ _ _ said.1 (c.in-Err-TooLong-load.ensures.printed ∙ c.in-Ok.ensures.printed))
-
-pub returns-in-Err-TooLong-load-clause-cut : goal.returns-in-Err-TooLong-load-clause-cut
-returns-in-Err-TooLong-load-clause-cut g c e room f told =
-    let before = c.in-Ok.ensures.faults_same (λ e. cc) in
-    let after = c.in-Err-TooLong-load.ensures.faults_same (λ e. cc) in
-    let free = not_rose_between _ _ _ _ before after (not_rose _ _ before room) in
-    let long = (c.in-Err-TooLong-load.ensures.exactly_long free (λ e. cc) f (c.in-Ok.ensures.files ∙ told)).0 (cc) in
-    let short = length_at _ _ _ (c.in-Ok.ensures.bytes f told) c.in-Ok.ensures.short in
-    inr (14, _, long_script _ c.in-Some.ensures short long refl refl, part_then _ _ _ _ (c.say-in-Err-TooLong-load.ensures.failed e).1 (c.in-Err-TooLong-load.ensures.printed ∙ c.in-Ok.ensures.printed))
-
-pub returns-in-Ok-answer-clause-answer : goal.returns-in-Ok-answer-clause-answer
-returns-in-Ok-answer-clause-answer g c no11 no12 calm f told =
-    let said = c.say-in-Ok-answer.ensures.said no11 no12 in
-    let source = c.in-Ok.ensures.bytes f told in
-    let script = c.in-Ok-load.ensures.bytes f (c.in-Ok.ensures.files ∙ told) in
-    let answer = same_texts _ _ _ _ _ _ _ _ (c.as_slice.ensures.value ∙ source) (c.as_slice-2.ensures.value ∙ script) (sym said.0) (sym c.as_slice-in-Ok-answer.ensures.value) c.in-Ok-answer.ensures.answer in
-    (_, texts _ c.in-Some.ensures (length_at _ _ _ source c.in-Ok.ensures.short) (length_at _ _ _ script c.in-Ok-load.ensures.short) answer, printed_then _ _ _ _ said.1 (c.in-Ok-load.ensures.printed ∙ c.in-Ok.ensures.printed))
-
-pub returns-in-Ok-answer-clause-cut : goal.returns-in-Ok-answer-clause-cut
-returns-in-Ok-answer-clause-cut g c e room f told =
-    let source = c.in-Ok.ensures.bytes f told in
-    let script = c.in-Ok-load.ensures.bytes f (c.in-Ok.ensures.files ∙ told) in
-    let answer = same_texts _ _ _ _ _ _ _ _ (c.as_slice.ensures.value ∙ source) (c.as_slice-2.ensures.value ∙ script) refl (sym c.as_slice-in-Ok-answer.ensures.value) c.in-Ok-answer.ensures.answer in
-    inr (_, _, texts _ c.in-Some.ensures (length_at _ _ _ source c.in-Ok.ensures.short) (length_at _ _ _ script c.in-Ok-load.ensures.short) answer, part_then _ _ _ _ (c.say-in-Ok-answer.ensures.failed e).1 (c.in-Ok-load.ensures.printed ∙ c.in-Ok.ensures.printed))
+pub returns-in-Err-NoCommand-clause-ends : goal.returns-in-Err-NoCommand-clause-ends
+returns-in-Err-NoCommand-clause-ends g c =
+    let S = g.S.Shelf in
+    let v : View = view (S.files c.args.shelf.now) (S.printed c.args.shelf.now) (S.asked c.args.shelf.now) (S.spare c.args.shelf.now) (S.faults c.args.shelf.now) (S.longs c.args.shelf.now) in
+    let w : View = view (S.files c.say.new.shelf) (S.printed c.say.new.shelf) (S.asked c.say.new.shelf) (S.spare c.say.new.shelf) (S.faults c.say.new.shelf) (S.longs c.say.new.shelf) in
+    let said : Ends v [] (λ files. IsLine 1 (codes "words\n")) c.say.result w = says_ends v w [] (λ files. IsLine 1 (codes "words\n")) (codes "words\n") 1 c.say.result (λ e. omega arith) c.say.ensures.says (λ files told. (refl, refl)) in
+    let n : Option Order = None in
+    let none : command_of (map string_bytes c.args.words.now) ≡ n = c.in-Err-NoCommand.ensures.none (cc (c.in-Err-NoCommand.field-0-is)) in
+    subst (λ (o : Option Order). Ends v (loads_of o) (AnswersTo o) c.say.result w) (sym none) said

@@ -1,47 +1,44 @@
-use Rattle.std.proofs.Common.{◌≡◌, ℕ, ◌+◌, false, List, Option, Err, Result, subst, ap, ◌∙◌, lit≤}
-use Rattle.std.specs.Prelude.{IsSome}
-use Rattle.pdp_dev.specs.declared.entry.Entry.{Entry}
+use Rattle.std.proofs.Common.{◌≡◌, ◌≢◌, ℕ, Bool, List, [], refl, sym, ◌∙◌, lit≤, arith}
+use Rattle.std.proofs.lemmas.Bool.Decides.{eqb_tells}
 use Rattle.mc_image.specs.Image.{ImageState}
 use Rattle.mc_script.specs.Script.{ScriptState}
-use Rattle.pdp_machine.specs.declared.stop.Stop.{Stop}
-use Rattle.pdp_machine.specs.Timed.{Timed, Advanced}
-use Rattle.pdp_machine.specs.Run.{advances, machine_run}
-use Rattle.mc_report.specs.declared.ending.Ending.{Ending}
-use Rattle.mc_report.specs.Report.{report_of}
-use Rattle.mc_compile.specs.declared.compile.Refusal.{Refusal}
-use Rattle.mc_compile.specs.declared.compile.Refusal.TheVariants.{NotYet}
+use Rattle.mc_compile.specs.Tracks.{CompiledFrom}
 use Rattle.mc_straight.specs.Form.{program_of, size_of}
-use Rattle.mc_driver.specs.Run.{ending_of, ending, trap_word, status_of}
-use Rattle.mc_driver.proofs.Headline.{run_of_program}
+use Rattle.mc_driver.specs.declared.ending.Origin.TheVariants.{Compiled as CompiledOrigin}
+use Rattle.mc_driver.specs.Outside.{View, view}
+use Rattle.mc_driver.specs.Run.{IsReport, IsRunOf}
+use Rattle.mc_driver.specs.Answer.{AfterSource, no_source, runs}
+use Rattle.mc_driver.proofs.Endings.{says_ends, ends_as}
+use Rattle.mc_driver.proofs.Headline.{run_of_program, own_status}
 use Rattle.mc_driver.proofs.run.run_source.Goals as goal
 
-pub returns-in-Err-clause-not_yet : goal.returns-in-Err-clause-not_yet
-returns-in-Err-clause-not_yet c e =
-    let same : c.in-Err.refusal ≡ NotYet = cc in
-    c.in-Err.ensures.not_yet (ap (λ (r : Refusal). let x : Result ImageState Refusal = Err r in x) same)
-
-pub returns-clause-ok : goal.returns-clause-ok
-unfolding machine_run
-returns-clause-ok c =
+pub returns-in-Ok-clause-ends : goal.returns-in-Ok-clause-ends
+returns-in-Ok-clause-ends g c =
+    let S = g.S.Shelf in
+    let v : View = view (S.files c.args.shelf.now) (S.printed c.args.shelf.now) (S.asked c.args.shelf.now) (S.spare c.args.shelf.now) (S.faults c.args.shelf.now) (S.longs c.args.shelf.now) in
+    let w : View = view (S.files c.play.new.shelf) (S.printed c.play.new.shelf) (S.asked c.play.new.shelf) (S.spare c.play.new.shelf) (S.faults c.play.new.shelf) (S.longs c.play.new.shelf) in
     let image : ImageState = c.in-Ok.image in
     let script : ScriptState = c.args.script.now in
-    let m0 : Timed = c.in_ok-machine.machine in
-    let m : Timed = c.run_machine.new.machine in
-    let run : Advanced = machine_run image script in
-    let whole : advances (c.limit.result + 1) m0 ≡ run = ap (λ (l : ℕ). advances (l + 1) m0) c.limit.ensures.value ∙ ap (λ (x : Timed). advances (script.limit + 1) x) c.in_ok-machine.ensures in
-    let last : m ≡ run.machine = c.in_ok-entries.ensures.machine ∙ ap (λ (a : Advanced). a.machine) whole in
-    let entries : c.as_slice.result.now ≡ run.entries = c.as_slice.ensures.value ∙ c.in_ok-entries.ensures.entries ∙ ap (λ (a : Advanced). a.entries) whole in
-    let count : c.instructions.result ≡ run.machine.instructions = c.instructions.ensures ∙ ap (λ (x : Timed). x.instructions) last in
-    let e1 = ap (λ (s : Option Stop). ending_of s c.peek.result c.peek-2.result) c.stop.ensures in
-    let e2 = ap (λ (w : ℕ). ending_of m.stop w c.peek-2.result) c.peek.ensures in
-    let e3 = ap (λ (w : ℕ). ending_of m.stop (trap_word m) w) c.peek-2.ensures in
-    let stopped : IsSome run.machine.stop = subst (λ (x : Timed). IsSome x.stop) last c.in_ok-entries.ensures.stopped in
-    let ends : c.ending_of-ending.result ≡ ending run.machine = c.ending_of-ending.ensures.value ∙ e1 ∙ e2 ∙ e3 ∙ ap ending last in
-    record {
+    let journal : Bool = c.args.journal in
+    let source : List ℕ = c.args.source.now in
+    let made : CompiledFrom source 200 16 image = c.in-Ok.ensures.ok in
+    ends_as v w [] [] (λ files. IsReport CompiledOrigin journal image script) (λ files. AfterSource source journal script) c.play.result c.play.ensures.ends
+    (λ files told status text report. runs (record {
       image = image;
-      compiled = c.in-Ok.ensures.ok;
-      stops = stopped;
-      text_is = c.in_ok-text.ensures ∙ ap (λ (l : List Entry). report_of l c.instructions.result c.ending_of-ending.result false) entries ∙ ap (λ (n : ℕ). report_of run.entries n c.ending_of-ending.result false) count ∙ ap (λ (e : Ending). report_of run.entries run.machine.instructions e false) ends;
-      status_is = c.status_of.ensures ∙ ap status_of ends;
-      meaning = run_of_program (program_of c.in-Ok.ensures.ok.form) (record { workspace = 200; processes = 16; size = size_of c.in-Ok.ensures.ok.accepted.tokens }) image script c.in-Ok.ensures.ok.compiled stopped (lit≤ tt);
-    }
+      compiled = made;
+      report = report;
+      meaning = run_of_program (program_of made.form) (record { workspace = 200; processes = 16; size = size_of made.accepted.tokens }) image script made.compiled report.stops (lit≤ tt);
+    }))
+
+pub returns-in-Ok-clause-own : goal.returns-in-Ok-clause-own
+returns-in-Ok-clause-own g c e =
+    let made : CompiledFrom c.args.source.now 200 16 c.in-Ok.image = c.in-Ok.ensures.ok in
+    let no11 : c.play.result ≢ 11 = λ f. omega (arith, e, f) in
+    let no12 : c.play.result ≢ 12 = λ f. omega (arith, e, f) in
+    let meaning = run_of_program (program_of made.form) (record { workspace = 200; processes = 16; size = size_of made.accepted.tokens }) c.in-Ok.image c.args.script.now made.compiled (c.play.ensures.stops no12) (lit≤ tt) in
+    own_status _ meaning.ends_as.ending_is (sym (c.play.ensures.status no11 no12) ∙ e)
+
+pub returns-in-Err-NotYet-clause-ends : goal.returns-in-Err-NotYet-clause-ends
+returns-in-Err-NotYet-clause-ends g c =
+    says_ends _ _ [] (λ files. AfterSource c.args.source.now c.args.journal c.args.script.now) _ 15 _ (λ e. omega arith) c.say.ensures.says
+    (λ files told. no_source (c.in-Err-NotYet.ensures.not_yet (cc)) (refl, refl))

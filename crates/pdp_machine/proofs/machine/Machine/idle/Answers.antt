@@ -1,7 +1,7 @@
 use Rattle.std.proofs.Common.{subst, sym, ap, ◌∙◌, Option, ◌≡◌, ℕ, ◌+◌, ◌≤◌, min, arith}
 use Rattle.std.specs.Prelude.{unwrap_or}
 use Rattle.pdp_machine.specs.Timed.{Timed, IsTimed, IsAhead, next_event}
-use Rattle.pdp_machine.proofs.Times.{at_next, later_at}
+use Rattle.pdp_machine.specs.Times.{at_next, later_at}
 use Rattle.pdp_machine.proofs.machine.Machine.idle.Goals as goal
 
 pub invariant_of-self : goal.invariant_of-self

@@ -2,7 +2,7 @@ use Rattle.std.proofs.Common.{subst, sym, ap, ◌∙◌, ℕ, ◌+◌, List, Opt
 use Rattle.std.specs.Prelude.{is_some, if◌then◌else◌}
 use Rattle.mc_script.specs.declared.script.Key.{Key}
 use Rattle.pdp_machine.specs.Timed.{AreAhead}
-use Rattle.pdp_machine.proofs.Times.{AreAhead-weaker, keys_left}
+use Rattle.pdp_machine.specs.Times.{AreAhead-weaker, keys_left}
 use Rattle.pdp_machine.proofs.machine.Machine.key_comes.Goals as goal
 
 pub invariant_of-self : goal.invariant_of-self

@@ -1,7 +1,7 @@
 use Rattle.std.proofs.Common.{◌≡◌, List, subst, sym, ◌∙◌, arith}
 use Rattle.mc_script.specs.declared.script.Key.{Key}
 use Rattle.pdp_machine.specs.Timed.{AreAhead}
-use Rattle.pdp_machine.proofs.Times.{AreAhead-after, AreAhead-weaker}
+use Rattle.pdp_machine.specs.Times.{AreAhead-after, AreAhead-weaker}
 use Rattle.pdp_machine.proofs.machine.Machine.open.Goals as goal
 
 pub invariant_of-result : goal.invariant_of-result
@@ -22,3 +22,6 @@ invariant_of-result c =
       punch_delay = c.punch.ensures.range;
       reader_delay = c.reader.ensures.range;
     }
+
+pub returns-clause-timed : goal.returns-clause-timed
+returns-clause-timed c = invariant_of-result c

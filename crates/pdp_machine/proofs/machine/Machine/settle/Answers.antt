@@ -1,6 +1,6 @@
 use Rattle.std.proofs.Common.{subst, sym, ℕ, ◌+◌, ◌<◌, ◌≤◌, arith}
 use Rattle.pdp_machine.specs.Timed.{Timed, IsLater}
-use Rattle.pdp_machine.proofs.Times.{IsAhead-weaker, AreAhead-weaker}
+use Rattle.pdp_machine.specs.Times.{IsAhead-weaker, AreAhead-weaker}
 use Rattle.pdp_machine.proofs.machine.Machine.settle.Goals as goal
 
 pub invariant_of-self : goal.invariant_of-self

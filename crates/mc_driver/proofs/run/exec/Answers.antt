@@ -1,0 +1,44 @@
+use Rattle.std.proofs.Common.{ℕ, Bool, List, [], ◌∷◌}
+use Rattle.mc_shelf.specs.declared.ask.Ask.TheVariants.{Load}
+use Rattle.mc_image.specs.Image.{ImageState}
+use Rattle.mc_script.specs.Script.{ScriptState}
+use Rattle.mc_driver.specs.declared.files.FileKind.TheVariants.{Script}
+use Rattle.mc_driver.specs.declared.ending.Origin.TheVariants.{Foreign}
+use Rattle.mc_driver.specs.Outside.{View, view}
+use Rattle.mc_driver.specs.Run.{IsReport}
+use Rattle.mc_driver.specs.Answer.{AfterLoad, AfterScript}
+use Rattle.mc_driver.proofs.Endings.{no_image_ends, after_image, no_script_ends, after_script}
+use Rattle.mc_driver.proofs.run.exec.Goals as goal
+
+pub returns-in-Err : goal.returns-in-Err
+returns-in-Err g c =
+    no_image_ends _ _ c.args.image.now (Load c.args.script.now ∷ []) (λ files i. AfterLoad Script c.args.script.now (λ lines. AfterScript lines (IsReport Foreign c.args.journal i)) files) _ c.in-Err.ensures.refused
+
+pub returns-in-Err-load_script : goal.returns-in-Err-load_script
+returns-in-Err-load_script g c =
+    let S = g.S.Shelf in
+    let v : View = view (S.files c.args.shelf.now) (S.printed c.args.shelf.now) (S.asked c.args.shelf.now) (S.spare c.args.shelf.now) (S.faults c.args.shelf.now) (S.longs c.args.shelf.now) in
+    let u : View = view (S.files c.load_image.new.shelf) (S.printed c.load_image.new.shelf) (S.asked c.load_image.new.shelf) (S.spare c.load_image.new.shelf) (S.faults c.load_image.new.shelf) (S.longs c.load_image.new.shelf) in
+    let w : View = view (S.files c.load_script.new.shelf) (S.printed c.load_script.new.shelf) (S.asked c.load_script.new.shelf) (S.spare c.load_script.new.shelf) (S.faults c.load_script.new.shelf) (S.longs c.load_script.new.shelf) in
+    let image : ImageState = c.in-Ok.image in
+    let journal : Bool = c.args.journal in
+    let name : List ℕ = c.args.script.now in
+    let bytes = c.in-Ok.ensures.ok in
+    after_image v u w c.args.image.now bytes.0 image (Load name ∷ []) (λ files i. AfterLoad Script name (λ lines. AfterScript lines (IsReport Foreign journal i)) files) _ bytes.1 bytes.2
+    (no_script_ends u w name (IsReport Foreign journal image) _ c.in-Err-load_script.ensures.refused)
+
+pub returns : goal.returns
+returns g c =
+    let S = g.S.Shelf in
+    let v : View = view (S.files c.args.shelf.now) (S.printed c.args.shelf.now) (S.asked c.args.shelf.now) (S.spare c.args.shelf.now) (S.faults c.args.shelf.now) (S.longs c.args.shelf.now) in
+    let u : View = view (S.files c.load_image.new.shelf) (S.printed c.load_image.new.shelf) (S.asked c.load_image.new.shelf) (S.spare c.load_image.new.shelf) (S.faults c.load_image.new.shelf) (S.longs c.load_image.new.shelf) in
+    let u2 : View = view (S.files c.load_script.new.shelf) (S.printed c.load_script.new.shelf) (S.asked c.load_script.new.shelf) (S.spare c.load_script.new.shelf) (S.faults c.load_script.new.shelf) (S.longs c.load_script.new.shelf) in
+    let w : View = view (S.files c.play.new.shelf) (S.printed c.play.new.shelf) (S.asked c.play.new.shelf) (S.spare c.play.new.shelf) (S.faults c.play.new.shelf) (S.longs c.play.new.shelf) in
+    let image : ImageState = c.in-Ok.image in
+    let script : ScriptState = c.in-Ok-load_script.script in
+    let journal : Bool = c.args.journal in
+    let name : List ℕ = c.args.script.now in
+    let bytes = c.in-Ok.ensures.ok in
+    let text = c.in-Ok-load_script.ensures.ok in
+    after_image v u w c.args.image.now bytes.0 image (Load name ∷ []) (λ files i. AfterLoad Script name (λ lines. AfterScript lines (IsReport Foreign journal i)) files) c.play.result bytes.1 bytes.2
+    (after_script u u2 w name text.0 script (IsReport Foreign journal image) c.play.result text.1 text.2 c.play.ensures.ends)

@@ -1,0 +1,117 @@
+-- The outside at a moment, as far as it tells of itself, and what a part of a command does to it.
+use Rattle.std.specs.Prelude.{◌≡◌, ◌≢◌, ◌≤◌, ◌<◌, ◌-◌, ◌^◌, ℕ, ◌+◌, ◌⊎◌, List, [], ◌∷◌, ◌++◌, length, Bool, Option, Some}
+use Rattle.std.specs.List.{flat_map}
+use Rattle.pdp_dev.specs.declared.entry.Entry.{Entry}
+use Rattle.mc_report.specs.Report.{line}
+use Rattle.mc_shelf.specs.declared.ask.Ask.{Ask}
+use Rattle.mc_shelf.specs.declared.ask.Ask.TheVariants.{Load}
+use Rattle.mc_shelf.specs.declared.shelf.PutFault.{PutFault}
+use Rattle.mc_shelf.specs.declared.shelf.PutFault.TheVariants.{Failed, Memory}
+use Rattle.mc_shelf.specs.Outside.{Files, content, Told, Rose, appended, IsPart, asks, HasRoom}
+
+pub record View : Type 0 where
+  pub files : Option Files
+  pub printed : Option (List ℕ)
+  pub asked : Option (List Ask)
+  pub spare : Option ℕ
+  pub faults : ℕ
+  pub longs : ℕ
+
+abbrev pub view : Option Files → Option (List ℕ) → Option (List Ask) → Option ℕ → ℕ → ℕ → View
+view files printed asked spare faults longs =
+    record { files = files; printed = printed; asked = asked; spare = spare; faults = faults; longs = longs }
+
+-- Printing in pieces
+
+-- the lines of entries; events and grants have lines where they are asked for
+abbrev pub lines_of : Bool → List Entry → List ℕ
+lines_of journal entries = flat_map (λ entry. line entry journal) entries
+
+-- Behind held bytes come others: a front of all of them was printed, and the rest is held. Nothing else has changed.
+pub record Streams (v : View) (held bytes : List ℕ) (w : View) (now : List ℕ) : Type 0 where
+  pub front : List ℕ
+  pub parts : held ++ bytes ≡ front ++ now
+  pub printed : w.printed ≡ appended v.printed front
+  pub room : (n : ℕ) → HasRoom v.spare (length (held ++ bytes) + n) → HasRoom w.spare (length now + n)
+  pub files : w.files ≡ v.files
+  pub asked : w.asked ≡ v.asked
+  pub faults : w.faults ≡ v.faults
+  pub longs : w.longs ≡ v.longs
+
+-- A print of them was refused: a part of all was printed.
+pub record Breaks (v : View) (held bytes : List ℕ) (fault : PutFault) (w : View) : Type 0 where
+  pub part : IsPart v.printed (held ++ bytes) w.printed
+  pub failed : fault ≡ Failed → Rose v.faults w.faults
+  pub memory : fault ≡ Memory → HasRoom v.spare (length (held ++ bytes)) → ⊥
+  pub later : v.faults ≤ w.faults
+  pub same : fault ≢ Failed → w.faults ≡ v.faults
+  pub files : w.files ≡ v.files
+  pub asked : w.asked ≡ v.asked
+  pub longs : w.longs ≡ v.longs
+
+-- Loads
+
+-- A file was loaded: it has these bytes, no more than the most that are allowed.
+pub record Loaded (v : View) (name : List ℕ) (most : ℕ) (bytes : List ℕ) (w : View) : Type 0 where
+  pub told : Told v.files (λ files. bytes ≡ content files name)
+  pub short : length bytes ≤ most
+  pub files : w.files ≡ v.files
+  pub printed : w.printed ≡ v.printed
+  pub asked : w.asked ≡ asks v.asked (Load name)
+  pub room : (n : ℕ) → HasRoom v.spare n → HasRoom w.spare n
+  pub faults : w.faults ≡ v.faults
+  pub longs : w.longs ≡ v.longs
+
+-- A file is too long.
+pub record IsLong (v : View) (name : List ℕ) (most : ℕ) (w : View) : Type 0 where
+  pub exactly : (Rose v.faults w.faults → ⊥) → Told v.files (λ files. most < length (content files name))
+  pub rose : Rose v.longs w.longs
+  pub files : w.files ≡ v.files
+  pub printed : w.printed ≡ v.printed
+  pub asked : w.asked ≡ asks v.asked (Load name)
+  pub faults : w.faults ≡ v.faults
+
+-- A line was said with a status, or could not be printed.
+pub record Says (v : View) (line : List ℕ) (status result : ℕ) (w : View) : Type 0 where
+  pub said : result ≢ 11 → result ≢ 12 → (result ≡ status) × (w.printed ≡ appended v.printed line)
+  pub failed : result ≡ 11 → Rose v.faults w.faults × IsPart v.printed line w.printed
+  pub memory : result ≡ 12 → w.printed ≡ v.printed
+  pub later : v.faults ≤ w.faults
+  pub same : result ≢ 11 → w.faults ≡ v.faults
+  pub longs : w.longs ≡ v.longs
+  pub asked : w.asked ≡ v.asked
+  pub files : w.files ≡ v.files
+
+-- A load failed.
+pub record LoadFails (v : View) (name : List ℕ) (w : View) : Type 0 where
+  pub rose : Rose v.faults w.faults
+  pub files : w.files ≡ v.files
+  pub printed : w.printed ≡ v.printed
+  pub asked : w.asked ≡ asks v.asked (Load name)
+
+-- Nothing has changed, but what room is told.
+pub record IsSame (v w : View) : Type 0 where
+  pub files : w.files ≡ v.files
+  pub printed : w.printed ≡ v.printed
+  pub asked : w.asked ≡ v.asked
+  pub faults : w.faults ≡ v.faults
+
+-- A file was not loaded: the load failed, there was no memory, or the file is too long, which is said.
+pub data Unloaded (v : View) (name : List ℕ) (most : ℕ) (line : List ℕ) (result : ℕ) (w : View) : Type 0 where
+  fails : result ≡ 11 → LoadFails v name w → Unloaded v name most line result w
+  no_memory : result ≡ 12 → IsSame v w → Unloaded v name most line result w
+  is_long : (u : View) → IsLong v name most u → Says u line 14 result w → Unloaded v name most line result w
+
+-- Whole commands
+
+-- What a command answers, asks and prints. It asks for these in their order, and where they are told it answers a
+-- status and prints a text as `Answers` says; 11 and 12 come where the outside fails and where memory is wanted, and then
+-- a first part of such a text was printed, or nothing. A count that stands at its end tells nothing.
+pub record Ends (v : View) (wanted : List Ask) (Answers : Files → ℕ → List ℕ → Type 0) (result : ℕ) (w : View) : Type 0 where
+  pub answer : result ≢ 11 → result ≢ 12 → (result ≡ 14 → Rose v.faults w.faults → ⊥) → Told v.files (λ files. (text : List ℕ) × Answers files result text × (w.printed ≡ appended v.printed text))
+  pub cut : (result ≡ 11) ⊎ (result ≡ 12) → v.faults < 2 ^ 64 - 1 → Told v.files (λ files. (w.printed ≡ v.printed) ⊎ ((status : ℕ) × (text : List ℕ) × Answers files status text × IsPart v.printed text w.printed × (result ≡ 12 → HasRoom v.spare (length text) → ⊥)))
+  pub failed : result ≡ 11 → Rose v.faults w.faults
+  pub grew : v.faults < w.faults → result ≡ 11
+  pub long : result ≡ 14 → Rose v.longs w.longs
+  pub asked : Told v.asked (λ asked. (some : List Ask) × (rest : List Ask) × (wanted ≡ some ++ rest) × (w.asked ≡ Some (asked ++ some)))
+  pub files : w.files ≡ v.files

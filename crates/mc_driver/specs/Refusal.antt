@@ -1,0 +1,55 @@
+-- The lines in which an image or a script is refused: a noun, a place where there is one, and a name.
+use Rattle.std.specs.Prelude.{ℕ, List, [], ◌++◌, codes, decimal, Option, Some, None}
+use Rattle.mc_image.specs.declared.fault.ImageFault.{ImageFault}
+use Rattle.mc_image.specs.declared.fault.ImageFault.TheVariants.{BadHeader, Truncated, BadCount, BadSum, OutOfMemoryRange, Overlap, NoStart, Trailing, Memory as ImageMemory}
+use Rattle.mc_script.specs.declared.fault.ScriptFault.{ScriptFault}
+use Rattle.mc_script.specs.declared.fault.ScriptFault.TheVariants.{BadLine, OutOfRange, Twice, Backwards, Memory as ScriptMemory}
+
+abbrev pub place_text : Option ℕ → List ℕ
+place_text None = []
+place_text (Some place) = decimal place ++ codes " "
+
+-- a byte of the image, from 0; that there is no start has no place
+abbrev pub image_place : ImageFault → Option ℕ
+image_place (BadHeader at) = Some at
+image_place (Truncated at) = Some at
+image_place (BadCount at) = Some at
+image_place (BadSum at) = Some at
+image_place (OutOfMemoryRange at) = Some at
+image_place (Overlap at) = Some at
+image_place NoStart = None
+image_place (Trailing at) = Some at
+image_place ImageMemory = None
+
+-- want of memory is no fault, and never said
+abbrev pub image_fault_name : ImageFault → List ℕ
+image_fault_name (BadHeader at) = codes "BadHeader"
+image_fault_name (Truncated at) = codes "Truncated"
+image_fault_name (BadCount at) = codes "BadCount"
+image_fault_name (BadSum at) = codes "BadSum"
+image_fault_name (OutOfMemoryRange at) = codes "OutOfMemoryRange"
+image_fault_name (Overlap at) = codes "Overlap"
+image_fault_name NoStart = codes "NoStart"
+image_fault_name (Trailing at) = codes "Trailing"
+image_fault_name ImageMemory = codes "Memory"
+
+abbrev pub image_line : ImageFault → List ℕ
+image_line fault = codes "image " ++ place_text (image_place fault) ++ image_fault_name fault ++ codes "\n"
+
+-- a line of the script, from 1
+abbrev pub script_place : ScriptFault → Option ℕ
+script_place (BadLine line) = Some line
+script_place (OutOfRange line) = Some line
+script_place (Twice line) = Some line
+script_place (Backwards line) = Some line
+script_place ScriptMemory = None
+
+abbrev pub script_fault_name : ScriptFault → List ℕ
+script_fault_name (BadLine line) = codes "BadLine"
+script_fault_name (OutOfRange line) = codes "OutOfRange"
+script_fault_name (Twice line) = codes "Twice"
+script_fault_name (Backwards line) = codes "Backwards"
+script_fault_name ScriptMemory = codes "Memory"
+
+abbrev pub script_line : ScriptFault → List ℕ
+script_line fault = codes "script " ++ place_text (script_place fault) ++ script_fault_name fault ++ codes "\n"

@@ -1,0 +1,131 @@
+// What commands ask of the outside besides reports: files that are loaded, and lines that are printed.
+
+ghost use Rattle.std.specs.Prelude.{◌≡◌, ◌≢◌, [], ◌∷◌, length, ℕ, List, IfOk, IfErr};
+ghost use Rattle.mc_shelf.specs.declared.ask.Ask.{Ask};
+ghost use Rattle.mc_image.specs.Format.{IsImage};
+ghost use Rattle.mc_script.specs.Texts.{IsText};
+ghost use Rattle.mc_driver.specs.Outside.{view, Loaded, Unloaded, Says, Ends};
+ghost use Rattle.mc_driver.specs.Answer.{most, too_long_line, AfterLoad, AfterImage, AfterScript};
+
+use crate::refusal::{image_line, script_line};
+use crate::status::{BAD_IMAGE, BAD_SCRIPT, FAILED, NO_MEMORY, TOO_LONG};
+use mc_image::image::Image;
+use mc_image::read_image;
+use mc_script::read_script;
+use mc_script::script::Script;
+use mc_shelf::shelf::{LoadFault, PutFault, Shelf};
+use std::alloc::Global;
+
+/// What a file holds.
+#[derive(Clone, Copy, PartialEq, Eq, Debug)]
+pub enum FileKind {
+    Source,
+    Script,
+    Image,
+}
+
+impl FileKind {
+    // How many bytes a file of this kind has at most.
+    fn most(self) -> usize
+        ensures { result ≡ most self }
+    {
+        match self {
+            FileKind::Source => 262_144,
+            FileKind::Script => 1_048_576,
+            FileKind::Image => 131_072,
+        }
+    }
+
+    // What is said of a file that has more.
+    fn too_long(self) -> &'static [u8]
+        ensures { result.now ≡ too_long_line self }
+    {
+        match self {
+            FileKind::Source => b"too long source\n",
+            FileKind::Script => b"too long script\n",
+            FileKind::Image => b"too long image\n",
+        }
+    }
+}
+
+/// Prints a line, and answers the status that goes with it, or why it could not be printed.
+pub fn say<S: Shelf>(shelf: &mut S, line: &[u8], status: u8) -> u8
+    requires failed { status ≢ 11 }
+    requires memory { status ≢ 12 }
+    ensures says { Says (view (S.files shelf.old) (S.printed shelf.old) (S.asked shelf.old) (S.spare shelf.old) (S.faults shelf.old) (S.longs shelf.old)) line.now status result (view (S.files shelf.new) (S.printed shelf.new) (S.asked shelf.new) (S.spare shelf.new) (S.faults shelf.new) (S.longs shelf.new)) }
+    ensures own { status ≢ 8 → result ≢ 8 }
+{
+    match shelf.print(line) {
+        Ok(()) => status,
+        Err(PutFault::Failed) => FAILED,
+        Err(PutFault::Memory) => NO_MEMORY,
+    }
+}
+
+/// Loads a file.
+///
+/// # Errors
+///
+/// The status of the answer, whose line is printed where it has one.
+pub fn load<S: Shelf>(
+    alloc: Global,
+    name: &str,
+    kind: FileKind,
+    shelf: &mut S,
+) -> Result<Vec<u8>, u8>
+    ensures ok { IfOk result (λ bytes. Loaded (view (S.files shelf.old) (S.printed shelf.old) (S.asked shelf.old) (S.spare shelf.old) (S.faults shelf.old) (S.longs shelf.old)) name.now (most kind) bytes.items (view (S.files shelf.new) (S.printed shelf.new) (S.asked shelf.new) (S.spare shelf.new) (S.faults shelf.new) (S.longs shelf.new))) }
+    ensures refused { IfErr result (λ status. Unloaded (view (S.files shelf.old) (S.printed shelf.old) (S.asked shelf.old) (S.spare shelf.old) (S.faults shelf.old) (S.longs shelf.old)) name.now (most kind) (too_long_line kind) status (view (S.files shelf.new) (S.printed shelf.new) (S.asked shelf.new) (S.spare shelf.new) (S.faults shelf.new) (S.longs shelf.new))) }
+    ensures own { IfErr result (λ status. status ≢ 8) }
+{
+    match shelf.load(alloc, name, kind.most()) {
+        Ok(bytes) => Ok(bytes),
+        Err(LoadFault::Failed) => Err(FAILED),
+        Err(LoadFault::TooLong) => Err(say(shelf, kind.too_long(), TOO_LONG)),
+        Err(LoadFault::Memory) => Err(NO_MEMORY),
+    }
+}
+
+/// Loads and reads an image.
+///
+/// # Errors
+///
+/// The status of the answer, whose line is printed where it has one.
+pub fn load_image<S: Shelf>(alloc: Global, name: &str, shelf: &mut S) -> Result<Image, u8>
+    ensures ok { IfOk result (λ image. (bytes : List ℕ) × Loaded (view (S.files shelf.old) (S.printed shelf.old) (S.asked shelf.old) (S.spare shelf.old) (S.faults shelf.old) (S.longs shelf.old)) name.now 131072 bytes (view (S.files shelf.new) (S.printed shelf.new) (S.asked shelf.new) (S.spare shelf.new) (S.faults shelf.new) (S.longs shelf.new)) × IsImage bytes image) }
+    ensures refused { IfErr result (λ status. Ends (view (S.files shelf.old) (S.printed shelf.old) (S.asked shelf.old) (S.spare shelf.old) (S.faults shelf.old) (S.longs shelf.old)) (Ask.Load name.now ∷ []) (AfterLoad FileKind.Image name.now (λ bytes. AfterImage bytes (λ image status text. ⊥))) status (view (S.files shelf.new) (S.printed shelf.new) (S.asked shelf.new) (S.spare shelf.new) (S.faults shelf.new) (S.longs shelf.new))) }
+{
+    let bytes = match load(alloc, name, FileKind::Image, shelf) {
+        Ok(bytes) => bytes,
+        Err(status) => return Err(status),
+    };
+    match read_image(alloc, bytes.as_slice()) {
+        Ok(image) => Ok(image),
+        Err(fault) => match image_line(fault) {
+            Some(line) => Err(say(shelf, line.as_slice(), BAD_IMAGE)),
+            None => Err(NO_MEMORY),
+        },
+    }
+}
+
+/// Loads and reads a script.
+///
+/// # Errors
+///
+/// The status of the answer, whose line is printed where it has one.
+pub fn load_script<S: Shelf>(alloc: Global, name: &str, shelf: &mut S) -> Result<Script, u8>
+    ensures ok { IfOk result (λ script. (text : List ℕ) × Loaded (view (S.files shelf.old) (S.printed shelf.old) (S.asked shelf.old) (S.spare shelf.old) (S.faults shelf.old) (S.longs shelf.old)) name.now 1048576 text (view (S.files shelf.new) (S.printed shelf.new) (S.asked shelf.new) (S.spare shelf.new) (S.faults shelf.new) (S.longs shelf.new)) × IsText text script) }
+    ensures refused { IfErr result (λ status. Ends (view (S.files shelf.old) (S.printed shelf.old) (S.asked shelf.old) (S.spare shelf.old) (S.faults shelf.old) (S.longs shelf.old)) (Ask.Load name.now ∷ []) (AfterLoad FileKind.Script name.now (λ text. AfterScript text (λ script status line. ⊥))) status (view (S.files shelf.new) (S.printed shelf.new) (S.asked shelf.new) (S.spare shelf.new) (S.faults shelf.new) (S.longs shelf.new))) }
+    ensures own { IfErr result (λ status. status ≢ 8) }
+{
+    let text = match load(alloc, name, FileKind::Script, shelf) {
+        Ok(text) => text,
+        Err(status) => return Err(status),
+    };
+    match read_script(alloc, text.as_slice()) {
+        Ok(script) => Ok(script),
+        Err(fault) => match script_line(fault) {
+            Some(line) => Err(say(shelf, line.as_slice(), BAD_SCRIPT)),
+            None => Err(NO_MEMORY),
+        },
+    }
+}

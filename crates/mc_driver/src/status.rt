@@ -1,0 +1,22 @@
+// The statuses of the answers that are no report.
+
+/// The words are no command.
+pub const WORDS: u8 = 1;
+
+/// The script is refused.
+pub const BAD_SCRIPT: u8 = 3;
+
+/// The image is refused.
+pub const BAD_IMAGE: u8 = 4;
+
+/// A load or a print failed.
+pub const FAILED: u8 = 11;
+
+/// Want of memory.
+pub const NO_MEMORY: u8 = 12;
+
+/// A file has more bytes than its limit.
+pub const TOO_LONG: u8 = 14;
+
+/// The form of the input is not built yet.
+pub const NOT_YET: u8 = 15;
