@@ -39,8 +39,8 @@ pub says_ends : (v w : View) (wanted : List Ask) (Answers : Files → ℕ → Li
 says_ends v w wanted Answers line status result short s is =
     record {
       answer = λ no11 no12 calm files told.
-        let said = s.said no11 no12 in
-        (line, subst (λ (n : ℕ). Answers files n line) (sym said.0) (is files told), said.1);
+          let said = s.said no11 no12 in
+          (line, subst (λ (n : ℕ). Answers files n line) (sym said.0) (is files told), said.1);
       cut = λ which room files told. cut which files told;
       failed = λ e. (s.failed e).0;
       grew = λ h. elim (eqb_tells result 11) [ inl e ↦ e.1 | inr e ↦ absurd (omega (arith, h, s.same e.1)) ];
@@ -71,16 +71,16 @@ pub loaded_ends : (v u w : View) (name : List ℕ) (most : ℕ) (bytes : List �
 loaded_ends v u w name most bytes wanted Answers Left result l e map =
     record {
       answer = λ no11 no12 calm files told.
-        let calm_there : result ≡ 14 → Rose u.faults w.faults → ⊥ = λ f r. calm f (subst (λ (n : ℕ). Rose n w.faults) l.faults r) in
-        let a = e.answer no11 no12 calm_there files (l.files ∙ told) in
-        (a.0, map files told (l.told files told) result a.0 a.1, a.2 ∙ ap (λ (o : Option (List ℕ)). appended o a.0) l.printed);
+          let calm_there : result ≡ 14 → Rose u.faults w.faults → ⊥ = λ f r. calm f (subst (λ (n : ℕ). Rose n w.faults) l.faults r) in
+          let a = e.answer no11 no12 calm_there files (l.files ∙ told) in
+          (a.0, map files told (l.told files told) result a.0 a.1, a.2 ∙ ap (λ (o : Option (List ℕ)). appended o a.0) l.printed);
       cut = λ which room files told. cut which room files told;
       failed = λ f. subst (λ (n : ℕ). Rose n w.faults) l.faults (e.failed f);
       grew = λ h. e.grew (subst (λ (n : ℕ). n < w.faults) (sym l.faults) h);
       long = λ f. subst (λ (n : ℕ). Rose n w.longs) l.longs (e.long f);
       asked = λ asked told.
-        let there = e.asked (asked ++ Load name ∷ []) (l.asked ∙ ap (λ (o : Option (List Ask)). asks o (Load name)) told) in
-        (Load name ∷ there.0, there.1, ap (λ (k : List Ask). Load name ∷ k) there.2, there.3 ∙ ap (λ (k : List Ask). let o : Option (List Ask) = Some k in o) (append_assoc asked (Load name ∷ []) there.0));
+          let there = e.asked (asked ++ Load name ∷ []) (l.asked ∙ ap (λ (o : Option (List Ask)). asks o (Load name)) told) in
+          (Load name ∷ there.0, there.1, ap (λ (k : List Ask). Load name ∷ k) there.2, there.3 ∙ ap (λ (k : List Ask). let o : Option (List Ask) = Some k in o) (append_assoc asked (Load name ∷ []) there.0));
       files = e.files ∙ l.files;
     }
   where
@@ -117,9 +117,9 @@ unloaded_ends v w name most line wanted Answers result (no_memory is s) long =
 unloaded_ends v w name most line wanted Answers result (is_long u l s) long =
     record {
       answer = λ no11 no12 calm files told.
-        let said = s.said no11 no12 in
-        let quiet : Rose v.faults u.faults → ⊥ = λ r. calm said.0 (subst (λ (n : ℕ). Rose v.faults n) (sym (s.same no11)) r) in
-        (line, subst (λ (n : ℕ). Answers files n line) (sym said.0) (long files told (l.exactly quiet files told)), said.1 ∙ ap (λ (o : Option (List ℕ)). appended o line) l.printed);
+          let said = s.said no11 no12 in
+          let quiet : Rose v.faults u.faults → ⊥ = λ r. calm said.0 (subst (λ (n : ℕ). Rose v.faults n) (sym (s.same no11)) r) in
+          (line, subst (λ (n : ℕ). Answers files n line) (sym said.0) (long files told (l.exactly quiet files told)), said.1 ∙ ap (λ (o : Option (List ℕ)). appended o line) l.printed);
       cut = λ which room files told. cut which room files told;
       failed = λ e. subst (λ (n : ℕ). Rose n w.faults) l.faults (s.failed e).0;
       grew = λ h. elim (eqb_tells result 11) [ inl e ↦ e.1 | inr e ↦ absurd (omega (arith, h, s.same e.1, l.faults)) ];

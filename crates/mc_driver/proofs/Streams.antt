@@ -34,7 +34,7 @@ streams_none v held =
 pub streams_then : (v u w : View) (held x mid y now : List ℕ) → Streams v held x u mid → Streams u mid y w now → Streams v held (x ++ y) w now
 streams_then v u w held x mid y now s t =
     let all : held ++ (x ++ y) ≡ (s.front ++ t.front) ++ now =
-      sym (append_assoc held x y) ∙ ap (λ (l : List ℕ). l ++ y) s.parts ∙ append_assoc s.front mid y ∙ ap (λ (l : List ℕ). s.front ++ l) t.parts ∙ sym (append_assoc s.front t.front now) in
+    sym (append_assoc held x y) ∙ ap (λ (l : List ℕ). l ++ y) s.parts ∙ append_assoc s.front mid y ∙ ap (λ (l : List ℕ). s.front ++ l) t.parts ∙ sym (append_assoc s.front t.front now) in
     record {
       front = s.front ++ t.front;
       parts = all;
@@ -50,7 +50,7 @@ streams_then v u w held x mid y now s t =
 pub breaks_then : (v u w : View) (held x mid y : List ℕ) (fault : PutFault) → Streams v held x u mid → Breaks u mid y fault w → Breaks v held (x ++ y) fault w
 breaks_then v u w held x mid y fault s b =
     let all : s.front ++ (mid ++ y) ≡ held ++ (x ++ y) =
-      sym (append_assoc s.front mid y) ∙ ap (λ (l : List ℕ). l ++ y) (sym s.parts) ∙ append_assoc held x y in
+    sym (append_assoc s.front mid y) ∙ ap (λ (l : List ℕ). l ++ y) (sym s.parts) ∙ append_assoc held x y in
     record {
       part = subst (λ (l : List ℕ). IsPart v.printed l w.printed) all (IsPart-behind s.front (mid ++ y) s.printed b.part);
       failed = λ e. subst (λ (k : ℕ). Rose k w.faults) s.faults (b.failed e);
@@ -105,5 +105,5 @@ lines_more journal xs i d h =
 pub lines_whole : (journal : Bool) (xs : List Entry) (i : ℕ) (d : Entry) → i < length xs → lines_of journal xs ≡ (lines_of journal (take i xs) ++ line (get_or xs i d) journal) ++ lines_of journal (drop (suc i) xs)
 lines_whole journal xs i d h =
     let front : lines_of journal (take i xs ++ get_or xs i d ∷ []) ≡ lines_of journal (take i xs) ++ line (get_or xs i d) journal =
-      lines-append journal (take i xs) (get_or xs i d ∷ []) ∙ ap (λ (l : List ℕ). lines_of journal (take i xs) ++ l) (append-nil (line (get_or xs i d) journal)) in
+    lines-append journal (take i xs) (get_or xs i d ∷ []) ∙ ap (λ (l : List ℕ). lines_of journal (take i xs) ++ l) (append-nil (line (get_or xs i d) journal)) in
     ap (lines_of journal) (behind_one xs i d h) ∙ lines-append journal (take i xs ++ get_or xs i d ∷ []) (drop (suc i) xs) ∙ ap (λ (l : List ℕ). l ++ lines_of journal (drop (suc i) xs)) front

@@ -65,13 +65,7 @@ fn run_source<S: Shelf>(
 }
 
 /// The command `run`.
-pub fn run<S: Shelf>(
-    alloc: Global,
-    source: &str,
-    script: &str,
-    journal: bool,
-    shelf: &mut S,
-) -> u8
+pub fn run<S: Shelf>(alloc: Global, source: &str, script: &str, journal: bool, shelf: &mut S) -> u8
     ensures ends { Ends (view (S.files shelf.old) (S.printed shelf.old) (S.asked shelf.old) (S.spare shelf.old) (S.faults shelf.old) (S.longs shelf.old)) (Ask.Load source.now ∷ Ask.Load script.now ∷ []) (IsRunAnswer source.now script.now journal) result (view (S.files shelf.new) (S.printed shelf.new) (S.asked shelf.new) (S.spare shelf.new) (S.faults shelf.new) (S.longs shelf.new)) }
     ensures own { result ≢ 8 }
 {
@@ -87,13 +81,7 @@ pub fn run<S: Shelf>(
 }
 
 /// The command `exec`.
-pub fn exec<S: Shelf>(
-    alloc: Global,
-    image: &str,
-    script: &str,
-    journal: bool,
-    shelf: &mut S,
-) -> u8
+pub fn exec<S: Shelf>(alloc: Global, image: &str, script: &str, journal: bool, shelf: &mut S) -> u8
     ensures { Ends (view (S.files shelf.old) (S.printed shelf.old) (S.asked shelf.old) (S.spare shelf.old) (S.faults shelf.old) (S.longs shelf.old)) (Ask.Load image.now ∷ Ask.Load script.now ∷ []) (IsExecAnswer image.now script.now journal) result (view (S.files shelf.new) (S.printed shelf.new) (S.asked shelf.new) (S.spare shelf.new) (S.faults shelf.new) (S.longs shelf.new)) }
 {
     let image = match load_image(alloc, image, shelf) {

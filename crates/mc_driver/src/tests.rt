@@ -89,7 +89,12 @@ fn answers_sources_and_scripts(rt: HostRuntime) -> Result<(), Fail> {
         (PRINTS_A, "limit 0", 3, "script 1 OutOfRange\n"),
         (PRINTS_A, "limit 20000001", 3, "script 1 OutOfRange\n"),
         (PRINTS_A, "limit 1\n\nlimit 1\n", 3, "script 3 Twice\n"),
-        (PRINTS_A, "at 5 key 101\nat 5 key 102", 3, "script 2 Backwards\n"),
+        (
+            PRINTS_A,
+            "at 5 key 101\nat 5 key 102",
+            3,
+            "script 2 Backwards\n",
+        ),
         (PRINTS_A, "; nothing\nlimits 1", 3, "script 2 BadLine\n"),
         ("(* a", "limit 0", 3, "script 1 OutOfRange\n"),
         (PRINTS_A, "\n", 0, PRINTED_A),
@@ -178,7 +183,8 @@ fn answers_calls_that_fail(rt: HostRuntime) -> Result<(), Fail> {
 
 /// The image of 22 bytes that prints 101 and halts: MOV #101, @#177566; HALT.
 const HALTS: [u8; 22] = [
-    0o001, 0, 0o016, 0, 0, 0o002, 0o337, 0o025, 0o101, 0, 0o166, 0o377, 0, 0, 0o105, 0o001, 0, 0o006, 0, 0, 0o002, 0o367,
+    0o001, 0, 0o016, 0, 0, 0o002, 0o337, 0o025, 0o101, 0, 0o166, 0o377, 0, 0, 0o105, 0o001, 0,
+    0o006, 0, 0, 0o002, 0o367,
 ];
 
 #[test]
@@ -189,8 +195,18 @@ fn answers_images(rt: HostRuntime) -> Result<(), Fail> {
     other_sum[14] = 0;
     for (image, script, status, text) in [
         (HALTS.as_slice(), "", 8, "print 101\ninstructions 2\nhalt\n"),
-        (HALTS.as_slice(), "limit 2", 8, "print 101\ninstructions 2\nhalt\n"),
-        (HALTS.as_slice(), "limit 1", 7, "print 101\ninstructions 1\nlimit\n"),
+        (
+            HALTS.as_slice(),
+            "limit 2",
+            8,
+            "print 101\ninstructions 2\nhalt\n",
+        ),
+        (
+            HALTS.as_slice(),
+            "limit 1",
+            7,
+            "print 101\ninstructions 1\nlimit\n",
+        ),
         (HALTS.as_slice(), "limit x", 3, "script 1 BadLine\n"),
         (&HALTS[..15], "", 4, "image NoStart\n"),
         (&HALTS[..14], "limit x", 4, "image 0 Truncated\n"),

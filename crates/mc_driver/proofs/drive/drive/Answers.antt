@@ -66,7 +66,7 @@ returns-in_err-put_lines-clause-refused g c =
     let bound : i < m.limit + 1 = omega (arith, c.limit.ensures, c.from-i-end.ensures, c.loop-i-test.true) in
     let n : (m.limit - i) + suc i ≡ m.limit + 1 = omega arith in
     let all : (lines_of journal before ++ lines_of journal more) ++ lines_of journal grow.0 ≡ lines_of journal (advances (m.limit + 1) m).entries =
-      ap (λ (l : List ℕ). l ++ lines_of journal grow.0) (sym (lines-append journal before more)) ∙ sym (lines-append journal (before ++ more) grow.0) ∙ ap (lines_of journal) (ap (λ (l : List Entry). l ++ grow.0) added ∙ sym grow.1) ∙ ap (λ (k : ℕ). lines_of journal (advances k m).entries) n in
+    ap (λ (l : List ℕ). l ++ lines_of journal grow.0) (sym (lines-append journal before more)) ∙ sym (lines-append journal (before ++ more) grow.0) ∙ ap (lines_of journal) (ap (λ (l : List Entry). l ++ grow.0) added ∙ sym grow.1) ∙ ap (λ (k : ℕ). lines_of journal (advances k m).entries) n in
     let whole = breaks_before v w [] (lines_of journal before ++ lines_of journal more) (lines_of journal grow.0) fault here in
     handed_on c.from_residual.result fault (λ f. Breaks v [] (lines_of journal (advances (m.limit + 1) m).entries) f w) c.from_residual.ensures.1 (subst (λ (l : List ℕ). Breaks v [] l fault w) all whole)
 

@@ -34,7 +34,7 @@ returns-in_err-put-clause-refused g c =
     let count : c.instructions.result ≡ run.machine.instructions = c.instructions.ensures ∙ ap (λ (x : Timed). x.instructions) c.in_ok-stop.ensures.machine in
     let last : List ℕ = count_line run.machine.instructions ++ ending_line (ending_for c.args.origin run.machine) in
     let said : c.as_slice.result.now ≡ last =
-      c.as_slice.ensures.value ∙ c.last_lines-lines.ensures ∙ ap (λ (n : ℕ). count_line n ++ ending_line c.ending_at-ending.result) count ∙ ap (λ (e : Ending). count_line run.machine.instructions ++ ending_line e) ends in
+    c.as_slice.ensures.value ∙ c.last_lines-lines.ensures ∙ ap (λ (n : ℕ). count_line n ++ ending_line c.ending_at-ending.result) count ∙ ap (λ (e : Ending). count_line run.machine.instructions ++ ending_line e) ends in
     let fault : PutFault = c.in_err-put.field-0.0 in
     let here : Breaks u c.drive.new.pieces last fault w = subst (λ (l : List ℕ). Breaks u c.drive.new.pieces l fault w) said c.in_err-put.ensures.refused in
     handed_on c.from_residual-in_err-put.result fault _ c.from_residual-in_err-put.ensures.1
@@ -57,10 +57,10 @@ returns-in_err-flush-clause-refused g c =
     let count : c.instructions.result ≡ run.machine.instructions = c.instructions.ensures ∙ ap (λ (x : Timed). x.instructions) c.in_ok-stop.ensures.machine in
     let last : List ℕ = count_line run.machine.instructions ++ ending_line (ending_for c.args.origin run.machine) in
     let said : c.as_slice.result.now ≡ last =
-      c.as_slice.ensures.value ∙ c.last_lines-lines.ensures ∙ ap (λ (n : ℕ). count_line n ++ ending_line c.ending_at-ending.result) count ∙ ap (λ (e : Ending). count_line run.machine.instructions ++ ending_line e) ends in
+    c.as_slice.ensures.value ∙ c.last_lines-lines.ensures ∙ ap (λ (n : ℕ). count_line n ++ ending_line c.ending_at-ending.result) count ∙ ap (λ (e : Ending). count_line run.machine.instructions ++ ending_line e) ends in
     let fault : PutFault = c.in_err-flush.field-0.0 in
     let both : Streams v [] (lines_of journal run.entries ++ last) w c.put.new.pieces =
-      streams_then v u w [] (lines_of journal run.entries) c.drive.new.pieces last c.put.new.pieces c.in_ok-stop.ensures.ok (subst (λ (l : List ℕ). Streams u c.drive.new.pieces l w c.put.new.pieces) said c.in_ok-put.ensures.ok) in
+    streams_then v u w [] (lines_of journal run.entries) c.drive.new.pieces last c.put.new.pieces c.in_ok-stop.ensures.ok (subst (λ (l : List ℕ). Streams u c.drive.new.pieces l w c.put.new.pieces) said c.in_ok-put.ensures.ok) in
     let all = breaks_then v w z [] (lines_of journal run.entries ++ last) c.put.new.pieces [] fault both c.in_err-flush.ensures.refused in
     handed_on c.from_residual-in_err-flush.result fault _ c.from_residual-in_err-flush.ensures.1
     (subst (λ (l : List ℕ). Breaks v [] l fault z) (append-nil (lines_of journal run.entries ++ last)) all)
@@ -82,8 +82,8 @@ returns-clause-ok g c =
     let count : c.instructions.result ≡ run.machine.instructions = c.instructions.ensures ∙ ap (λ (x : Timed). x.instructions) c.in_ok-stop.ensures.machine in
     let last : List ℕ = count_line run.machine.instructions ++ ending_line (ending_for c.args.origin run.machine) in
     let said : c.as_slice.result.now ≡ last =
-      c.as_slice.ensures.value ∙ c.last_lines-lines.ensures ∙ ap (λ (n : ℕ). count_line n ++ ending_line c.ending_at-ending.result) count ∙ ap (λ (e : Ending). count_line run.machine.instructions ++ ending_line e) ends in
+    c.as_slice.ensures.value ∙ c.last_lines-lines.ensures ∙ ap (λ (n : ℕ). count_line n ++ ending_line c.ending_at-ending.result) count ∙ ap (λ (e : Ending). count_line run.machine.instructions ++ ending_line e) ends in
     let both : Streams v [] (lines_of journal run.entries ++ last) w c.put.new.pieces =
-      streams_then v u w [] (lines_of journal run.entries) c.drive.new.pieces last c.put.new.pieces c.in_ok-stop.ensures.ok (subst (λ (l : List ℕ). Streams u c.drive.new.pieces l w c.put.new.pieces) said c.in_ok-put.ensures.ok) in
+    streams_then v u w [] (lines_of journal run.entries) c.drive.new.pieces last c.put.new.pieces c.in_ok-stop.ensures.ok (subst (λ (l : List ℕ). Streams u c.drive.new.pieces l w c.put.new.pieces) said c.in_ok-put.ensures.ok) in
     let all = streams_then v w z [] (lines_of journal run.entries ++ last) c.put.new.pieces [] c.flush.new.pieces both c.in_ok-flush.ensures.ok in
     subst (λ (l : List ℕ). Streams v [] l z []) (append-nil (lines_of journal run.entries ++ last)) (subst (λ (p : List ℕ). Streams v [] ((lines_of journal run.entries ++ last) ++ []) z p) c.in_ok-flush.ensures.none all)

@@ -33,7 +33,7 @@ returns-in-Ok-print_report-clause-ends g c =
     let status_is : c.status_of.result ≡ status_of (ending_for origin run.machine) = c.status_of.ensures ∙ ap status_of ends in
     let plain = plain_status (ending_for origin run.machine) in
     report_ends v w (λ files. IsReport origin journal image script) text c.status_of.result (λ e. plain.0 (sym status_is ∙ e)) (λ e. plain.1 (sym status_is ∙ e)) (λ e. plain.2 (sym status_is ∙ e)) c.in-Ok-print_report.ensures.ok
-    (λ files told. record { stops = stops; text_is = text_is; status_is = status_is; })
+    (λ files told. record { stops = stops; text_is = text_is; status_is = status_is })
 
 pub returns-in-Ok-print_report-clause-stops : goal.returns-in-Ok-print_report-clause-stops
 unfolding machine_run
@@ -63,7 +63,7 @@ returns-in-Err-Failed-clause-ends g c =
     let text : List ℕ = text_of origin journal (advances (m.limit + 1) m) in
     let text_is : text ≡ text_of origin journal run = ap (λ (a : Advanced). text_of origin journal a) whole in
     breaks_ends v w (λ files. IsReport origin journal image script) text (status_of (ending_for origin run.machine)) (subst (λ (f : PutFault). Breaks v [] text f w) c.in-Err-Failed.field-0-is c.in-Err-Failed.ensures.refused)
-    (λ files told. record { stops = stops; text_is = text_is; status_is = refl; })
+    (λ files told. record { stops = stops; text_is = text_is; status_is = refl })
 
 pub returns-in-Err-Failed-clause-stops : goal.returns-in-Err-Failed-clause-stops
 unfolding machine_run
@@ -87,4 +87,4 @@ returns-clause-ends g c =
     let text : List ℕ = text_of origin journal (advances (m.limit + 1) m) in
     let text_is : text ≡ text_of origin journal run = ap (λ (a : Advanced). text_of origin journal a) whole in
     tight_ends v w (λ files. IsReport origin journal image script) text (status_of (ending_for origin run.machine)) (subst (λ (f : PutFault). Breaks v [] text f w) c.in-Err-Memory.field-0-is c.in-Err-Memory.ensures.refused)
-    (λ files told. record { stops = stops; text_is = text_is; status_is = refl; })
+    (λ files told. record { stops = stops; text_is = text_is; status_is = refl })

@@ -36,6 +36,6 @@ returns-clause-ends g c =
     let name : List ℕ = c.args.script.now in
     let text = c.in-Ok-load_script.ensures.ok in
     let ran : Ends u2 [] (λ files. AfterSource bytes journal script) c.run_source.result w =
-      subst (λ (b : List ℕ). Ends u2 [] (λ files. AfterSource b journal script) c.run_source.result w) c.as_slice.ensures.value c.run_source.ensures.ends in
+    subst (λ (b : List ℕ). Ends u2 [] (λ files. AfterSource b journal script) c.run_source.result w) c.as_slice.ensures.value c.run_source.ensures.ends in
     after_load v u w Source c.args.source.now bytes (Load name ∷ []) (λ files b. AfterLoad Script name (λ lines. AfterScript lines (AfterSource b journal)) files) c.run_source.result c.in-Ok.ensures.ok
     (after_script u u2 w name text.0 script (AfterSource bytes journal) c.run_source.result text.1 text.2 ran)
