@@ -182,12 +182,12 @@ pub has_room : (tokens : List Token) (form : Straight) → IsStraight tokens for
 has_room tokens form s = omega (arith, length-code_of form, s.size, s.whole)
 
 -- a source of the form, and the image of its code
-pub compiled_from : (tokens : List Token) (end : Place) (source : List ℕ) (form : Straight) → Spells tokens end source → IsStraight tokens form → CompiledFrom source 200 16 (image_of (code_of form))
-compiled_from tokens end source form spelled straight =
+pub compiled_from : (tokens : List Token) (end : Place) (source : List ℕ) (form : Straight) (workspace processes : ℕ) → 1 ≤ processes → Spells tokens end source → IsStraight tokens form → CompiledFrom source workspace processes (image_of (code_of form))
+compiled_from tokens end source form workspace processes one spelled straight =
     record {
       form = form;
       accepted = record { tokens = tokens; end = end; spelled = spelled; straight = straight };
-      compiled = compiled form (record { workspace = 200; processes = 16; size = size_of tokens }) (omega arith) (straight.head.least, straight.head.most) (has_room tokens form straight) (known_variables tokens form straight);
+      compiled = compiled form (record { workspace = workspace; processes = processes; size = size_of tokens }) one (straight.head.least, straight.head.most) (has_room tokens form straight) (known_variables tokens form straight);
     }
 
 pub blocks_fit : (content : List ℕ) → 1 ≤ length content → 8192 + length content ≤ 57344 → AreBlocks (record { address = 0o50; bytes = 1 ∷ 0 ∷ [] } ∷ record { address = 0o20000; bytes = content } ∷ [])

@@ -9,6 +9,7 @@ use mc_image::image::Image;
 use mc_scan::{ScanFault, scan};
 use mc_straight::read::straight_line;
 use mc_word::bytes::Memory;
+use mc_word::word::Settings;
 use std::alloc::Global;
 use thiserror::Error;
 
@@ -36,14 +37,14 @@ impl From<Memory> for Refusal {
 // More tokens make a source of a size above 20,000 words, at 12 words for each.
 const MOST_TOKENS: usize = 1666;
 
-/// Compiles a source with workspaces of 200 words and at most 16 processes.
+/// Compiles a source under settings.
 ///
 /// # Errors
 ///
 /// `NotYet` exactly where the source is no straight-line device module, and `Memory`.
-pub fn compile(alloc: Global, source: &[u8]) -> Result<Image, Refusal>
+pub fn compile(alloc: Global, source: &[u8], settings: Settings) -> Result<Image, Refusal>
     requires { length source.now ≤ 262144 }
-    ensures ok { IfOk result (λ i. CompiledFrom source.now 200 16 i) }
+    ensures ok { IfOk result (λ i. CompiledFrom source.now settings.workspace_words settings.processes i) }
     ensures not_yet { IsErrOf result Refusal.NotYet → (form : Straight) → IsStraightSource source.now form → ⊥ }
 {
     let scanned = match scan(alloc, source) {

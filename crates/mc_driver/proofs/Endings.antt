@@ -1,26 +1,30 @@
 -- Loads and prints, one behind the other, are a whole command.
-use Rattle.std.proofs.Common.{◌≡◌, ◌≢◌, ◌≤◌, ◌<◌, ◌-◌, ◌^◌, ◌⊎◌, ℕ, ◌+◌, Bool, true, false, List, [], ◌∷◌, ◌++◌, length, Option, Some, None, refl, sym, ap, ◌∙◌, subst, arith, inl, inr, append_assoc}
+use Rattle.std.proofs.Common.{◌≡◌, ◌≢◌, ◌≤◌, ◌<◌, ◌-◌, ◌^◌, ◌⊎◌, ℕ, List, [], ◌∷◌, ◌++◌, length, Option, Some, Ok, refl, sym, ap, ◌∙◌, subst, arith, inl, inr, append_assoc}
 use Rattle.std.proofs.lemmas.List.{append-nil}
 use Rattle.std.proofs.lemmas.Bool.Decides.{eqb_tells}
 use Rattle.mc_shelf.specs.declared.ask.Ask.{Ask}
 use Rattle.mc_shelf.specs.declared.ask.Ask.TheVariants.{Load}
-use Rattle.mc_shelf.specs.Outside.{Files, content, Told, Rose, appended, IsPart, asks, HasRoom}
+use Rattle.mc_shelf.specs.Outside.{Files, content, Told, Rose, appended, IsPart, asks}
 use Rattle.mc_shelf.specs.declared.shelf.PutFault.TheVariants.{Failed, Memory}
+use Rattle.mc_words.specs.Settings.{Numbers, AnswersSettings}
 use Rattle.mc_image.specs.Image.{ImageState}
 use Rattle.mc_image.specs.Format.{IsImage}
 use Rattle.mc_script.specs.Script.{ScriptState}
 use Rattle.mc_script.specs.Texts.{IsText}
 use Rattle.mc_driver.specs.declared.files.FileKind.{FileKind}
-use Rattle.mc_driver.specs.declared.files.FileKind.TheVariants.{Script, Image}
-use Rattle.mc_driver.specs.Outside.{View, Streams, Breaks, Loaded, IsLong, Says, LoadFails, IsSame, Unloaded, fails, no_memory, is_long, Ends}
-use Rattle.mc_driver.specs.Answer.{most, too_long_line, AfterLoad, long_file, loaded, AfterImage, no_image, an_image, AfterScript, no_script, a_script}
+use Rattle.mc_driver.specs.declared.files.FileKind.TheVariants.{Script, Image, Settings}
+use Rattle.mc_driver.specs.Outside.{View, IsInPieces, Prints, Breaks, Loaded, Says, IsSame, Unloaded, fails, no_memory, is_long, IsCut, Ends}
+use Rattle.mc_driver.specs.Answer.{most, too_long_line, AfterLoad, long_file, loaded, AfterImage, no_image, an_image, AfterScript, no_script, a_script, AfterReadingSettings, no_settings, some_settings}
 
 not_rose : (before now : ℕ) → now ≡ before → before < 2 ^ 64 - 1 → Rose before now → ⊥
 not_rose before now e h r = absurd (omega (arith, e, h, r))
 
 -- what was printed, seen from where nothing was printed in between
-part_from : (a b now : Option (List ℕ)) (text : List ℕ) → b ≡ a → IsPart b text now → IsPart a text now
+pub part_from : (a b now : Option (List ℕ)) (text : List ℕ) → b ≡ a → IsPart b text now → IsPart a text now
 part_from a b now text e p = subst (λ (x : Option (List ℕ)). IsPart x text now) e p
+
+pub pieces_from : (a b now : Option (List ℕ)) (text : List ℕ) → b ≡ a → IsInPieces b text now → IsInPieces a text now
+pieces_from a b now text e p = subst (λ (x : Option (List ℕ)). IsInPieces x text now) e p
 
 -- nothing is asked
 asked_none : (v w : View) → w.asked ≡ v.asked → Told v.asked (λ asked. (some : List Ask) × (rest : List Ask) × ([] ≡ some ++ rest) × (w.asked ≡ Some (asked ++ some)))
@@ -49,8 +53,8 @@ says_ends v w wanted Answers line status result short s is =
       files = s.files;
     }
   where
-    cut : (result ≡ 11) ⊎ (result ≡ 12) → (files : Files) → v.files ≡ Some files → (w.printed ≡ v.printed) ⊎ ((st : ℕ) × (text : List ℕ) × Answers files st text × IsPart v.printed text w.printed × (result ≡ 12 → HasRoom v.spare (length text) → ⊥))
-    cut (inl e) files told = inr (status, line, is files told, (s.failed e).1, λ f. absurd (omega arith))
+    cut : (result ≡ 11) ⊎ (result ≡ 12) → (files : Files) → v.files ≡ Some files → (w.printed ≡ v.printed) ⊎ IsCut v files Answers result w
+    cut (inl e) files told = inr (record { status = status; text = line; answers = is files told; part = (s.failed e).1; tight = λ f. absurd (omega arith); pieces = λ f. absurd (omega arith) })
     cut (inr e) files told = inl (s.memory e)
 
 -- there is no memory
@@ -84,13 +88,20 @@ loaded_ends v u w name most bytes wanted Answers Left result l e map =
       files = e.files ∙ l.files;
     }
   where
-    cut : (result ≡ 11) ⊎ (result ≡ 12) → v.faults < 2 ^ 64 - 1 → (files : Files) → v.files ≡ Some files → (w.printed ≡ v.printed) ⊎ ((st : ℕ) × (text : List ℕ) × Answers files st text × IsPart v.printed text w.printed × (result ≡ 12 → HasRoom v.spare (length text) → ⊥))
+    cut : (result ≡ 11) ⊎ (result ≡ 12) → v.faults < 2 ^ 64 - 1 → (files : Files) → v.files ≡ Some files → (w.printed ≡ v.printed) ⊎ IsCut v files Answers result w
     cut which room files told = go (e.cut which (subst (λ (n : ℕ). n < 2 ^ 64 - 1) (sym l.faults) room) files (l.files ∙ told))
       where
-        go : (w.printed ≡ u.printed) ⊎ ((st : ℕ) × (text : List ℕ) × Left files st text × IsPart u.printed text w.printed × (result ≡ 12 → HasRoom u.spare (length text) → ⊥)) → (w.printed ≡ v.printed) ⊎ ((st : ℕ) × (text : List ℕ) × Answers files st text × IsPart v.printed text w.printed × (result ≡ 12 → HasRoom v.spare (length text) → ⊥))
+        go : (w.printed ≡ u.printed) ⊎ IsCut u files Left result w → (w.printed ≡ v.printed) ⊎ IsCut v files Answers result w
         go (inl same) = inl (same ∙ l.printed)
-        go (inr (st, text, answers, part, tight)) =
-            inr (st, text, map files told (l.told files told) st text answers, part_from v.printed u.printed w.printed text l.printed part, λ f h. tight f (l.room (length text) h))
+        go (inr c) =
+            inr (record {
+              status = c.status;
+              text = c.text;
+              answers = map files told (l.told files told) c.status c.text c.answers;
+              part = part_from v.printed u.printed w.printed c.text l.printed c.part;
+              tight = λ f h. c.tight f (l.room (length c.text) h);
+              pieces = λ f. pieces_from v.printed u.printed w.printed c.text l.printed (c.pieces f);
+            })
 
 -- a file is not loaded
 pub unloaded_ends : (v w : View) (name : List ℕ) (most : ℕ) (line : List ℕ) (wanted : List Ask) (Answers : Files → ℕ → List ℕ → Type 0) (result : ℕ) → Unloaded v name most line result w → ((files : Files) → v.files ≡ Some files → most < length (content files name) → Answers files 14 line) → Ends v (Load name ∷ wanted) Answers result w
@@ -128,17 +139,24 @@ unloaded_ends v w name most line wanted Answers result (is_long u l s) long =
       files = s.files ∙ l.files;
     }
   where
-    cut : (result ≡ 11) ⊎ (result ≡ 12) → v.faults < 2 ^ 64 - 1 → (files : Files) → v.files ≡ Some files → (w.printed ≡ v.printed) ⊎ ((st : ℕ) × (text : List ℕ) × Answers files st text × IsPart v.printed text w.printed × (result ≡ 12 → HasRoom v.spare (length text) → ⊥))
+    cut : (result ≡ 11) ⊎ (result ≡ 12) → v.faults < 2 ^ 64 - 1 → (files : Files) → v.files ≡ Some files → (w.printed ≡ v.printed) ⊎ IsCut v files Answers result w
     cut (inl e) room files told =
         let at = l.exactly (not_rose v.faults u.faults l.faults room) files told in
-        inr (14, line, long files told at, part_from v.printed u.printed w.printed line l.printed (s.failed e).1, λ f. absurd (omega (arith, e, f)))
+        inr (record {
+          status = 14;
+          text = line;
+          answers = long files told at;
+          part = part_from v.printed u.printed w.printed line l.printed (s.failed e).1;
+          tight = λ f. absurd (omega (arith, e, f));
+          pieces = λ f. absurd (omega (arith, e, f));
+        })
     cut (inr e) room files told = inl (s.memory e ∙ l.printed)
 
 -- a report is printed
-pub report_ends : (v w : View) (Answers : Files → ℕ → List ℕ → Type 0) (text : List ℕ) (status : ℕ) → status ≢ 11 → status ≢ 12 → status ≢ 14 → Streams v [] text w [] → ((files : Files) → v.files ≡ Some files → Answers files status text) → Ends v [] Answers status w
+pub report_ends : (v w : View) (Answers : Files → ℕ → List ℕ → Type 0) (text : List ℕ) (status : ℕ) → status ≢ 11 → status ≢ 12 → status ≢ 14 → Prints v text w → ((files : Files) → v.files ≡ Some files → Answers files status text) → Ends v [] Answers status w
 report_ends v w Answers text status no11 no12 no14 s is =
     record {
-      answer = λ n11 n12 calm files told. (text, is files told, s.printed ∙ ap (λ (l : List ℕ). appended v.printed l) (sym (append-nil s.front) ∙ sym s.parts));
+      answer = λ n11 n12 calm files told. (text, is files told, s.printed);
       cut = λ which room files told. absurd (neither which);
       failed = λ e. absurd (no11 e);
       grew = λ h. absurd (omega (arith, h, s.faults));
@@ -156,7 +174,7 @@ pub breaks_ends : (v w : View) (Answers : Files → ℕ → List ℕ → Type 0)
 breaks_ends v w Answers text status b is =
     record {
       answer = λ no11 no12 calm files told. absurd (no11 refl);
-      cut = λ which room files told. inr (status, text, is files told, b.part, λ e. absurd (omega arith));
+      cut = λ which room files told. inr (record { status = status; text = text; answers = is files told; part = b.part; tight = λ e. absurd (omega arith); pieces = λ e. absurd (omega arith) });
       failed = λ e. b.failed refl;
       grew = λ h. refl;
       long = λ e. absurd (omega arith);
@@ -169,7 +187,7 @@ pub tight_ends : (v w : View) (Answers : Files → ℕ → List ℕ → Type 0) 
 tight_ends v w Answers text status b is =
     record {
       answer = λ no11 no12 calm files told. absurd (no12 refl);
-      cut = λ which room files told. inr (status, text, is files told, b.part, λ e h. b.memory refl h);
+      cut = λ which room files told. inr (record { status = status; text = text; answers = is files told; part = b.part; tight = λ e h. b.memory refl h; pieces = λ e. b.pieces refl });
       failed = λ e. absurd (omega arith);
       grew = λ h. absurd (omega (arith, h, b.same (λ e. cc)));
       long = λ e. absurd (omega arith);
@@ -190,9 +208,9 @@ ends_as v w wanted more Some_answers Answers result e map =
       files = e.files;
     }
   where
-    go : (files : Files) → v.files ≡ Some files → (w.printed ≡ v.printed) ⊎ ((st : ℕ) × (text : List ℕ) × Some_answers files st text × IsPart v.printed text w.printed × (result ≡ 12 → HasRoom v.spare (length text) → ⊥)) → (w.printed ≡ v.printed) ⊎ ((st : ℕ) × (text : List ℕ) × Answers files st text × IsPart v.printed text w.printed × (result ≡ 12 → HasRoom v.spare (length text) → ⊥))
+    go : (files : Files) → v.files ≡ Some files → (w.printed ≡ v.printed) ⊎ IsCut v files Some_answers result w → (w.printed ≡ v.printed) ⊎ IsCut v files Answers result w
     go files told (inl same) = inl same
-    go files told (inr (st, text, answers, part, tight)) = inr (st, text, map files told st text answers, part, tight)
+    go files told (inr c) = inr (record { status = c.status; text = c.text; answers = map files told c.status c.text c.answers; part = c.part; tight = c.tight; pieces = c.pieces })
 
 -- Answers by steps
 
@@ -240,3 +258,19 @@ after_image v u w name bytes image wanted Next result l is e =
 pub no_image_ends : (v w : View) (name : List ℕ) (more : List Ask) (Next : Files → ImageState → ℕ → List ℕ → Type 0) (result : ℕ) → Ends v (Load name ∷ []) (AfterLoad Image name (λ b. AfterImage b (λ i s t. ⊥))) result w → Ends v (Load name ∷ more) (λ files. AfterLoad Image name (λ b. AfterImage b (Next files)) files) result w
 no_image_ends v w name more Next result e =
     ends_as v w (Load name ∷ []) more (AfterLoad Image name (λ b. AfterImage b (λ i s t. ⊥))) (λ files. AfterLoad Image name (λ b. AfterImage b (Next files)) files) result e (λ files told status text. refused_image name Next files status text)
+
+pub refused_settings : (name : List ℕ) (Next : Files → Numbers → ℕ → List ℕ → Type 0) (files : Files) (status : ℕ) (text : List ℕ) → AfterLoad Settings name (λ b. AfterReadingSettings b (λ i s t. ⊥)) files status text → AfterLoad Settings name (λ b. AfterReadingSettings b (Next files)) files status text
+refused_settings name Next files status text (long_file l is) = long_file l is
+refused_settings name Next files status text (loaded s (no_settings fault other has is)) = loaded s (no_settings fault other has is)
+refused_settings name Next files status text (loaded s (some_settings numbers is next)) = absurd next
+
+-- settings are loaded and read, and the rest of the command follows
+pub after_settings : (v u w : View) (name bytes : List ℕ) (numbers : Numbers) (wanted : List Ask) (Next : Files → Numbers → ℕ → List ℕ → Type 0) (result : ℕ) → Loaded v name 4096 bytes u → AnswersSettings bytes (Ok numbers) → Ends u wanted (λ files. Next files numbers) result w → Ends v (Load name ∷ wanted) (λ files. AfterLoad Settings name (λ b. AfterReadingSettings b (Next files)) files) result w
+after_settings v u w name bytes numbers wanted Next result l is e =
+    loaded_ends v u w name 4096 bytes wanted (λ files. AfterLoad Settings name (λ b. AfterReadingSettings b (Next files)) files) (λ files. Next files numbers) result l e
+    (λ files told same status text next. loaded (subst (λ (b : List ℕ). length b ≤ 4096) same l.short) (some_settings numbers (subst (λ (b : List ℕ). AnswersSettings b (Ok numbers)) same is) next))
+
+-- settings are not read
+pub no_settings_end : (v w : View) (name : List ℕ) (more : List Ask) (Next : Files → Numbers → ℕ → List ℕ → Type 0) (result : ℕ) → Ends v (Load name ∷ []) (AfterLoad Settings name (λ b. AfterReadingSettings b (λ i s t. ⊥))) result w → Ends v (Load name ∷ more) (λ files. AfterLoad Settings name (λ b. AfterReadingSettings b (Next files)) files) result w
+no_settings_end v w name more Next result e =
+    ends_as v w (Load name ∷ []) more (AfterLoad Settings name (λ b. AfterReadingSettings b (λ i s t. ⊥))) (λ files. AfterLoad Settings name (λ b. AfterReadingSettings b (Next files)) files) result e (λ files told status text. refused_settings name Next files status text)

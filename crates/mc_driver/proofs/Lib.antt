@@ -2,3 +2,4 @@ pub mod Headline
 pub mod Ran
 pub mod Streams
 pub mod Endings
+pub mod Saving

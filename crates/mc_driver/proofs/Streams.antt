@@ -1,5 +1,5 @@
 -- Pieces that are printed one behind the other.
-use Rattle.std.proofs.Common.{◌≡◌, ◌≢◌, ◌≤◌, ℕ, ◌+◌, List, [], ◌∷◌, ◌++◌, length, Option, Some, None, Result, Ok, Err, IfErr, IsErrAnd, take, drop, get_or, zero, suc, ◌<◌, Bool, refl, sym, ap, ◌∙◌, subst, arith, append_assoc, length-append, inl, inr}
+use Rattle.std.proofs.Common.{◌≡◌, ◌≤◌, ◌%◌, ℕ, ◌+◌, List, [], ◌∷◌, ◌++◌, length, Option, Some, None, Result, Ok, Err, IfErr, IsErrAnd, take, drop, get_or, zero, suc, ◌<◌, Bool, refl, sym, ap, ◌∙◌, subst, arith, append_assoc, length-append}
 use Rattle.std.proofs.lemmas.List.{append-nil}
 use Rattle.mc_shelf.specs.Outside.{Rose, appended, IsPart, HasRoom}
 use Rattle.mc_shelf.specs.Laws.{appended-append, IsPart-front, IsPart-behind}
@@ -7,14 +7,43 @@ use Rattle.mc_shelf.specs.declared.shelf.PutFault.{PutFault}
 use Rattle.std.proofs.lemmas.Grind.{take_at_read}
 use Rattle.pdp_dev.specs.declared.entry.Entry.{Entry}
 use Rattle.mc_report.specs.Report.{line}
-use Rattle.mc_driver.specs.Outside.{View, Streams, Breaks, lines_of}
+use Rattle.mc_driver.specs.Outside.{View, IsInPieces, Streams, Prints, Breaks, lines_of}
 
-appended-none : (printed : Option (List ℕ)) → printed ≡ appended printed []
+pub appended-none : (printed : Option (List ℕ)) → printed ≡ appended printed []
 appended-none None = refl
 appended-none (Some before) = ap (λ (l : List ℕ). let o : Option (List ℕ) = Some l in o) (sym (append-nil before))
 
 room_as : (spare : Option ℕ) (a b : ℕ) → a ≡ b → HasRoom spare a → HasRoom spare b
 room_as spare a b e h = subst (HasRoom spare) e h
+
+-- Whole pieces
+
+pub whole_both : (a b : List ℕ) → length a % 4096 ≡ 0 → length b % 4096 ≡ 0 → length (a ++ b) % 4096 ≡ 0
+whole_both a b p q = omega (arith, p, q, length-append a b)
+
+-- pieces of a first text are pieces of the whole
+pub pieces_front : {printed now : Option (List ℕ)} (a b : List ℕ) → IsInPieces printed a now → IsInPieces printed (a ++ b) now
+pieces_front a b p = record {
+  front = p.front;
+  rest = p.rest ++ b;
+  parts = ap (λ (x : List ℕ). x ++ b) p.parts ∙ append_assoc p.front p.rest b;
+  appends = p.appends;
+  whole = p.whole;
+}
+
+-- pieces that are a whole text, and then those of a second one
+pub pieces_behind : {printed between now : Option (List ℕ)} (a b : List ℕ) → between ≡ appended printed a → length a % 4096 ≡ 0 → IsInPieces between b now → IsInPieces printed (a ++ b) now
+pieces_behind {printed} a b all whole p = record {
+  front = a ++ p.front;
+  rest = p.rest;
+  parts = ap (λ (x : List ℕ). a ++ x) p.parts ∙ sym (append_assoc a p.front p.rest);
+  appends = p.appends ∙ ap (λ (x : Option (List ℕ)). appended x p.front) all ∙ appended-append printed a p.front;
+  whole = whole_both a p.front whole p.whole;
+}
+
+-- nothing was printed
+pub pieces_none : (printed now : Option (List ℕ)) (bytes : List ℕ) → now ≡ printed → IsInPieces printed bytes now
+pieces_none printed now bytes e = record { front = []; rest = bytes; parts = refl; appends = e ∙ appended-none printed; whole = refl }
 
 -- nothing is behind the held bytes
 pub streams_none : (v : View) (held : List ℕ) → Streams v held [] v held
@@ -23,6 +52,7 @@ streams_none v held =
       front = [];
       parts = append-nil held;
       printed = appended-none v.printed;
+      whole = refl;
       room = λ n h. room_as v.spare _ _ (omega (arith, length-append held [])) h;
       files = refl;
       asked = refl;
@@ -39,6 +69,7 @@ streams_then v u w held x mid y now s t =
       front = s.front ++ t.front;
       parts = all;
       printed = t.printed ∙ ap (λ (o : Option (List ℕ)). appended o t.front) s.printed ∙ appended-append v.printed s.front t.front;
+      whole = whole_both s.front t.front s.whole t.whole;
       room = λ n h. t.room n (room_as u.spare _ _ (omega (arith, length-append mid y)) (s.room (length y + n) (room_as v.spare _ _ (omega (arith, length-append held x, length-append held (x ++ y), length-append x y)) h)));
       files = t.files ∙ s.files;
       asked = t.asked ∙ s.asked;
@@ -53,6 +84,7 @@ breaks_then v u w held x mid y fault s b =
     sym (append_assoc s.front mid y) ∙ ap (λ (l : List ℕ). l ++ y) (sym s.parts) ∙ append_assoc held x y in
     record {
       part = subst (λ (l : List ℕ). IsPart v.printed l w.printed) all (IsPart-behind s.front (mid ++ y) s.printed b.part);
+      pieces = λ e. subst (λ (l : List ℕ). IsInPieces v.printed l w.printed) all (pieces_behind s.front (mid ++ y) s.printed s.whole (b.pieces e));
       failed = λ e. subst (λ (k : ℕ). Rose k w.faults) s.faults (b.failed e);
       memory = λ e h. b.memory e (room_as u.spare _ _ (omega (arith, length-append mid y)) (s.room (length y) (room_as v.spare _ _ (omega (arith, length-append held x, length-append held (x ++ y), length-append x y)) h)));
       later = subst (λ (k : ℕ). k ≤ w.faults) s.faults b.later;
@@ -68,6 +100,7 @@ breaks_before v w held x y fault b =
     let all : (held ++ x) ++ y ≡ held ++ (x ++ y) = append_assoc held x y in
     record {
       part = subst (λ (l : List ℕ). IsPart v.printed l w.printed) all (IsPart-front (held ++ x) y b.part);
+      pieces = λ e. subst (λ (l : List ℕ). IsInPieces v.printed l w.printed) all (pieces_front (held ++ x) y (b.pieces e));
       failed = b.failed;
       memory = λ e h. b.memory e (less v.spare _ _ (omega (arith, length-append held x, length-append held (x ++ y), length-append x y)) h);
       later = b.later;
@@ -80,6 +113,17 @@ breaks_before v w held x y fault b =
     less : (spare : Option ℕ) (a b : ℕ) → a ≤ b → HasRoom spare b → HasRoom spare a
     less None a b e h = h
     less (Some room) a b e h = omega arith
+
+-- some bytes, and then a print of all that is held
+pub streams_print : (v u w : View) (held x mid : List ℕ) → Streams v held x u mid → Prints u mid w → Prints v (held ++ x) w
+streams_print v u w held x mid s p =
+    record {
+      printed = p.printed ∙ ap (λ (o : Option (List ℕ)). appended o mid) s.printed ∙ appended-append v.printed s.front mid ∙ ap (λ (l : List ℕ). appended v.printed l) (sym s.parts);
+      files = p.files ∙ s.files;
+      asked = p.asked ∙ s.asked;
+      faults = p.faults ∙ s.faults;
+      longs = p.longs ∙ s.longs;
+    }
 
 -- a fault that is handed on
 pub handed_on : {T E : Type 0} (r : Result T E) (e : E) (P : E → Type 0) → IsErrAnd r (λ y. y ≡ e) → P e → IfErr r P

@@ -1,13 +1,13 @@
 -- The outside at a moment, as far as it tells of itself, and what a part of a command does to it.
-use Rattle.std.specs.Prelude.{◌≡◌, ◌≢◌, ◌≤◌, ◌<◌, ◌-◌, ◌^◌, ℕ, ◌+◌, ◌⊎◌, List, [], ◌∷◌, ◌++◌, length, Bool, Option, Some}
+use Rattle.std.specs.Prelude.{◌≡◌, ◌≢◌, ◌≤◌, ◌<◌, ◌-◌, ◌^◌, ◌%◌, ℕ, ◌+◌, ◌⊎◌, List, ◌++◌, length, Bool, Option, Some, None}
 use Rattle.std.specs.List.{flat_map}
 use Rattle.pdp_dev.specs.declared.entry.Entry.{Entry}
 use Rattle.mc_report.specs.Report.{line}
 use Rattle.mc_shelf.specs.declared.ask.Ask.{Ask}
-use Rattle.mc_shelf.specs.declared.ask.Ask.TheVariants.{Load}
+use Rattle.mc_shelf.specs.declared.ask.Ask.TheVariants.{Load, Save}
 use Rattle.mc_shelf.specs.declared.shelf.PutFault.{PutFault}
 use Rattle.mc_shelf.specs.declared.shelf.PutFault.TheVariants.{Failed, Memory}
-use Rattle.mc_shelf.specs.Outside.{Files, content, Told, Rose, appended, IsPart, asks, HasRoom}
+use Rattle.mc_shelf.specs.Outside.{Files, content, Told, Rose, placed, appended, IsPart, asks, HasRoom}
 
 pub record View : Type 0 where
   pub files : Option Files
@@ -23,26 +23,44 @@ view files printed asked spare faults longs =
 
 -- Printing in pieces
 
+-- A first part of these bytes was printed: whole pieces of 4,096 bytes, of which there may be none.
+pub record IsInPieces (printed : Option (List ℕ)) (bytes : List ℕ) (now : Option (List ℕ)) : Type 0 where
+  pub front : List ℕ
+  pub rest : List ℕ
+  pub parts : bytes ≡ front ++ rest
+  pub appends : now ≡ appended printed front
+  pub whole : length front % 4096 ≡ 0
+
 -- the lines of entries; events and grants have lines where they are asked for
 abbrev pub lines_of : Bool → List Entry → List ℕ
 lines_of journal entries = flat_map (λ entry. line entry journal) entries
 
--- Behind held bytes come others: a front of all of them was printed, and the rest is held. Nothing else has changed.
+-- Behind held bytes come others: whole pieces of all of them were printed, and the rest is held. Nothing else has changed.
 pub record Streams (v : View) (held bytes : List ℕ) (w : View) (now : List ℕ) : Type 0 where
   pub front : List ℕ
   pub parts : held ++ bytes ≡ front ++ now
   pub printed : w.printed ≡ appended v.printed front
+  pub whole : length front % 4096 ≡ 0
   pub room : (n : ℕ) → HasRoom v.spare (length (held ++ bytes) + n) → HasRoom w.spare (length now + n)
   pub files : w.files ≡ v.files
   pub asked : w.asked ≡ v.asked
   pub faults : w.faults ≡ v.faults
   pub longs : w.longs ≡ v.longs
 
--- A print of them was refused: a part of all was printed.
+-- Bytes were printed, all of them. Nothing else has changed, but what room is told.
+pub record Prints (v : View) (bytes : List ℕ) (w : View) : Type 0 where
+  pub printed : w.printed ≡ appended v.printed bytes
+  pub files : w.files ≡ v.files
+  pub asked : w.asked ≡ v.asked
+  pub faults : w.faults ≡ v.faults
+  pub longs : w.longs ≡ v.longs
+
+-- A print of them was refused: a part of all was printed, and for want of memory one of whole pieces.
 pub record Breaks (v : View) (held bytes : List ℕ) (fault : PutFault) (w : View) : Type 0 where
   pub part : IsPart v.printed (held ++ bytes) w.printed
   pub failed : fault ≡ Failed → Rose v.faults w.faults
   pub memory : fault ≡ Memory → HasRoom v.spare (length (held ++ bytes)) → ⊥
+  pub pieces : fault ≡ Memory → IsInPieces v.printed (held ++ bytes) w.printed
   pub later : v.faults ≤ w.faults
   pub same : fault ≢ Failed → w.faults ≡ v.faults
   pub files : w.files ≡ v.files
@@ -76,6 +94,7 @@ pub record Says (v : View) (line : List ℕ) (status result : ℕ) (w : View) : 
   pub said : result ≢ 11 → result ≢ 12 → (result ≡ status) × (w.printed ≡ appended v.printed line)
   pub failed : result ≡ 11 → Rose v.faults w.faults × IsPart v.printed line w.printed
   pub memory : result ≡ 12 → w.printed ≡ v.printed
+  pub tight : result ≡ 12 → HasRoom v.spare (length line) → ⊥
   pub later : v.faults ≤ w.faults
   pub same : result ≢ 11 → w.faults ≡ v.faults
   pub longs : w.longs ≡ v.longs
@@ -104,14 +123,64 @@ pub data Unloaded (v : View) (name : List ℕ) (most : ℕ) (line : List ℕ) (r
 
 -- Whole commands
 
+-- A command was cut off on its way to an answer: a first part of the answer's text was printed. For want of memory it is one
+-- of whole pieces, and room for the whole text was not told.
+pub record IsCut (v : View) (files : Files) (Answers : Files → ℕ → List ℕ → Type 0) (result : ℕ) (w : View) : Type 0 where
+  pub status : ℕ
+  pub text : List ℕ
+  pub answers : Answers files status text
+  pub part : IsPart v.printed text w.printed
+  pub tight : result ≡ 12 → HasRoom v.spare (length text) → ⊥
+  pub pieces : result ≡ 12 → IsInPieces v.printed text w.printed
+
 -- What a command answers, asks and prints. It asks for these in their order, and where they are told it answers a
 -- status and prints a text as `Answers` says; 11 and 12 come where the outside fails and where memory is wanted, and then
 -- a first part of such a text was printed, or nothing. A count that stands at its end tells nothing.
 pub record Ends (v : View) (wanted : List Ask) (Answers : Files → ℕ → List ℕ → Type 0) (result : ℕ) (w : View) : Type 0 where
   pub answer : result ≢ 11 → result ≢ 12 → (result ≡ 14 → Rose v.faults w.faults → ⊥) → Told v.files (λ files. (text : List ℕ) × Answers files result text × (w.printed ≡ appended v.printed text))
-  pub cut : (result ≡ 11) ⊎ (result ≡ 12) → v.faults < 2 ^ 64 - 1 → Told v.files (λ files. (w.printed ≡ v.printed) ⊎ ((status : ℕ) × (text : List ℕ) × Answers files status text × IsPart v.printed text w.printed × (result ≡ 12 → HasRoom v.spare (length text) → ⊥)))
+  pub cut : (result ≡ 11) ⊎ (result ≡ 12) → v.faults < 2 ^ 64 - 1 → Told v.files (λ files. (w.printed ≡ v.printed) ⊎ IsCut v files Answers result w)
   pub failed : result ≡ 11 → Rose v.faults w.faults
   pub grew : v.faults < w.faults → result ≡ 11
   pub long : result ≡ 14 → Rose v.longs w.longs
   pub asked : Told v.asked (λ asked. (some : List Ask) × (rest : List Ask) × (wanted ≡ some ++ rest) × (w.asked ≡ Some (asked ++ some)))
   pub files : w.files ≡ v.files
+
+-- Commands that may save a file
+
+-- A file was saved: it has these bytes, and the others are as before.
+pub record IsSavedTo (v : View) (name bytes : List ℕ) (w : View) : Type 0 where
+  pub files : w.files ≡ placed v.files name (Some bytes)
+  pub printed : w.printed ≡ v.printed
+  pub asked : w.asked ≡ asks v.asked (Save name)
+  pub room : (n : ℕ) → HasRoom v.spare n → HasRoom w.spare n
+  pub faults : w.faults ≡ v.faults
+  pub longs : w.longs ≡ v.longs
+
+-- Every name but the target's, where there is one, keeps its file.
+abbrev pub KeepsOthers : Option (List ℕ) → Option Files → Option Files → Type 0
+KeepsOthers None before after = after ≡ before
+KeepsOthers (Some name) before after = (after ≡ before) ⊎ ((held : Option (List ℕ)) × (after ≡ placed before name held))
+
+-- A command was cut off on its way to an answer: a first part of the answer's text was printed, and the files are those of
+-- the answer. Or the save failed by which it would have been done: then nothing was printed, and the others keep their files.
+-- For want of memory the part is one of whole pieces, and room for the whole text was not told.
+pub record IsCutOff (v : View) (before : Files) (target : Option (List ℕ)) (Answers : Files → Files → ℕ → List ℕ → Type 0) (result : ℕ) (w : View) : Type 0 where
+  pub after : Files
+  pub status : ℕ
+  pub text : List ℕ
+  pub answers : Answers before after status text
+  pub part : IsPart v.printed text w.printed
+  pub files : (w.files ≡ Some after) ⊎ ((status ≡ 0) × (w.printed ≡ v.printed) × KeepsOthers target v.files w.files)
+  pub tight : result ≡ 12 → HasRoom v.spare (length text) → ⊥
+  pub pieces : result ≡ 12 → IsInPieces v.printed text w.printed
+
+-- What a command answers, asks, prints and saves, as in `Ends`. `Answers` relates the files before and after. No file but
+-- the target's changes; and where the command is cut off before it comes to an answer, that one does not change either.
+pub record EndsSaving (v : View) (wanted : List Ask) (target : Option (List ℕ)) (Answers : Files → Files → ℕ → List ℕ → Type 0) (result : ℕ) (w : View) : Type 0 where
+  pub answer : result ≢ 11 → result ≢ 12 → (result ≡ 14 → Rose v.faults w.faults → ⊥) → Told v.files (λ files. (after : Files) × (text : List ℕ) × Answers files after result text × (w.files ≡ Some after) × (w.printed ≡ appended v.printed text))
+  pub cut : (result ≡ 11) ⊎ (result ≡ 12) → v.faults < 2 ^ 64 - 1 → Told v.files (λ files. ((w.printed ≡ v.printed) × (w.files ≡ v.files)) ⊎ IsCutOff v files target Answers result w)
+  pub failed : result ≡ 11 → Rose v.faults w.faults
+  pub grew : v.faults < w.faults → result ≡ 11
+  pub long : result ≡ 14 → Rose v.longs w.longs
+  pub asked : Told v.asked (λ asked. (some : List Ask) × (rest : List Ask) × (wanted ≡ some ++ rest) × (w.asked ≡ Some (asked ++ some)))
+  pub files : KeepsOthers target v.files w.files

@@ -1,7 +1,9 @@
--- The lines in which an image or a script is refused: a noun, a place where there is one, and a name.
+-- The lines in which an image, a script or settings are refused: a noun, a place where there is one, and a name.
 use Rattle.std.specs.Prelude.{ℕ, List, [], ◌++◌, codes, decimal, Option, Some, None}
 use Rattle.mc_image.specs.declared.fault.ImageFault.{ImageFault}
 use Rattle.mc_image.specs.declared.fault.ImageFault.TheVariants.{BadHeader, Truncated, BadCount, BadSum, OutOfMemoryRange, Overlap, NoStart, Trailing, Memory as ImageMemory}
+use Rattle.mc_words.specs.declared.setting_fault.SettingFault.{SettingFault}
+use Rattle.mc_words.specs.declared.setting_fault.SettingFault.TheVariants.{NotToml, UnknownKey, BadKind, OutOfRange as SettingOutOfRange, Memory as SettingMemory}
 use Rattle.mc_script.specs.declared.fault.ScriptFault.{ScriptFault}
 use Rattle.mc_script.specs.declared.fault.ScriptFault.TheVariants.{BadLine, OutOfRange, Twice, Backwards, Memory as ScriptMemory}
 
@@ -53,3 +55,13 @@ script_fault_name ScriptMemory = codes "Memory"
 
 abbrev pub script_line : ScriptFault → List ℕ
 script_line fault = codes "script " ++ place_text (script_place fault) ++ script_fault_name fault ++ codes "\n"
+
+abbrev pub setting_fault_name : SettingFault → List ℕ
+setting_fault_name NotToml = codes "NotToml"
+setting_fault_name UnknownKey = codes "UnknownKey"
+setting_fault_name BadKind = codes "BadKind"
+setting_fault_name SettingOutOfRange = codes "OutOfRange"
+setting_fault_name SettingMemory = codes "Memory"
+
+abbrev pub setting_line : SettingFault → List ℕ
+setting_line fault = codes "settings " ++ setting_fault_name fault ++ codes "\n"

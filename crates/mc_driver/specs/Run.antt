@@ -12,6 +12,7 @@ use Rattle.pdp_machine.specs.Made.{state}
 use Rattle.mc_report.specs.declared.ending.Ending.{Ending}
 use Rattle.mc_report.specs.declared.ending.Ending.TheVariants.{End, Stuck, Trap, Limit as LimitEnding, Halt as HaltEnding, BusFault as BusFaultEnding, Reserved as ReservedEnding, Silent as SilentEnding}
 use Rattle.mc_report.specs.Report.{report_of}
+use Rattle.mc_words.specs.Settings.{Numbers}
 use Rattle.mc_prog.specs.Program.{Program}
 use Rattle.mc_meaning.specs.Config.{Config, opening_config}
 use Rattle.mc_meaning.specs.Runs.{config_after, IsTrapped, IsQuiet, IsEnded, IsStuck}
@@ -116,8 +117,8 @@ pub record IsRunOfProgram (program : Program) (bounds : Bounds) (image : ImageSt
   pub ends_as : EndsAs program bounds (machine_run image script).machine (config_after program (opening_config program) tracking.run)
 
 -- the text is the report of the machine's run of an image that is compiled from the source
-pub record IsRunOf (source : List ℕ) (script : ScriptState) (journal : Bool) (status : ℕ) (text : List ℕ) : Type 0 where
+pub record IsRunOf (source : List ℕ) (settings : Numbers) (script : ScriptState) (journal : Bool) (status : ℕ) (text : List ℕ) : Type 0 where
   pub image : ImageState
-  pub compiled : CompiledFrom source 200 16 image
+  pub compiled : CompiledFrom source settings.workspace_words settings.processes image
   pub report : IsReport CompiledOrigin journal image script status text
-  pub meaning : IsRunOfProgram (program_of compiled.form) (record { workspace = 200; processes = 16; size = size_of compiled.accepted.tokens }) image script
+  pub meaning : IsRunOfProgram (program_of compiled.form) (record { workspace = settings.workspace_words; processes = settings.processes; size = size_of compiled.accepted.tokens }) image script

@@ -1,10 +1,11 @@
 // The top call.
 
-ghost use Rattle.std.specs.Prelude.{◌≡◌, ◌≢◌, Some, [], map, codes, string_bytes};
+ghost use Rattle.std.specs.Prelude.{◌≡◌, ◌≢◌, Some, None, [], map, codes, string_bytes};
 ghost use Rattle.mc_words.specs.Commands.{order_of, command_of};
-ghost use Rattle.mc_driver.specs.Outside.{view, Ends};
-ghost use Rattle.mc_driver.specs.Answer.{IsLine, AnswersTo, IsAnswer, IsRun, loads_of};
+ghost use Rattle.mc_driver.specs.Outside.{view, EndsSaving};
+ghost use Rattle.mc_driver.specs.Answer.{IsLine, SavesNothing, AnswersTo, IsAnswer, IsRun, asks_of, target_of};
 
+use crate::compile::compile;
 use crate::files::say;
 use crate::run::{exec, run};
 use crate::status::{NO_MEMORY, NOT_YET, WORDS};
@@ -14,7 +15,7 @@ use std::alloc::Global;
 
 // A command that is not built yet.
 fn not_yet<S: Shelf>(shelf: &mut S) -> u8
-    ensures ends { Ends (view (S.files shelf.old) (S.printed shelf.old) (S.asked shelf.old) (S.spare shelf.old) (S.faults shelf.old) (S.longs shelf.old)) [] (λ files. IsLine 15 (codes "not yet words\n")) result (view (S.files shelf.new) (S.printed shelf.new) (S.asked shelf.new) (S.spare shelf.new) (S.faults shelf.new) (S.longs shelf.new)) }
+    ensures ends { EndsSaving (view (S.files shelf.old) (S.printed shelf.old) (S.asked shelf.old) (S.spare shelf.old) (S.faults shelf.old) (S.longs shelf.old)) [] None (SavesNothing (λ files. IsLine 15 (codes "not yet words\n"))) result (view (S.files shelf.new) (S.printed shelf.new) (S.asked shelf.new) (S.spare shelf.new) (S.faults shelf.new) (S.longs shelf.new)) }
     ensures own { result ≢ 8 }
 {
     say(shelf, b"not yet words\n", NOT_YET)
@@ -22,7 +23,7 @@ fn not_yet<S: Shelf>(shelf: &mut S) -> u8
 
 // Does what a command asks.
 fn obey<S: Shelf>(alloc: Global, command: Command, shelf: &mut S) -> u8
-    ensures ends { Ends (view (S.files shelf.old) (S.printed shelf.old) (S.asked shelf.old) (S.spare shelf.old) (S.faults shelf.old) (S.longs shelf.old)) (loads_of (Some (order_of command.entry))) (AnswersTo (Some (order_of command.entry))) result (view (S.files shelf.new) (S.printed shelf.new) (S.asked shelf.new) (S.spare shelf.new) (S.faults shelf.new) (S.longs shelf.new)) }
+    ensures ends { EndsSaving (view (S.files shelf.old) (S.printed shelf.old) (S.asked shelf.old) (S.spare shelf.old) (S.faults shelf.old) (S.longs shelf.old)) (asks_of (Some (order_of command.entry))) (target_of (Some (order_of command.entry))) (AnswersTo (Some (order_of command.entry))) result (view (S.files shelf.new) (S.printed shelf.new) (S.asked shelf.new) (S.spare shelf.new) (S.faults shelf.new) (S.longs shelf.new)) }
     ensures own { IsRun (Some (order_of command.entry)) → result ≢ 8 }
 {
     match command {
@@ -31,16 +32,17 @@ fn obey<S: Shelf>(alloc: Global, command: Command, shelf: &mut S) -> u8
             script,
             settings,
             journal,
-        } => match settings {
-            None => run(alloc, source, script, journal, shelf),
-            Some(_) => not_yet(shelf),
-        },
+        } => run(alloc, source, script, settings, journal, shelf),
         Command::Exec {
             image,
             script,
             journal,
         } => exec(alloc, image, script, journal, shelf),
-        Command::Compile { .. } => not_yet(shelf),
+        Command::Compile {
+            source,
+            image,
+            settings,
+        } => compile(alloc, source, image, settings, shelf),
         Command::Check { .. } => not_yet(shelf),
         Command::Generate { .. } => not_yet(shelf),
         Command::OwnRun { .. } => not_yet(shelf),
@@ -48,14 +50,15 @@ fn obey<S: Shelf>(alloc: Global, command: Command, shelf: &mut S) -> u8
 }
 
 /// Does what the words of a command ask of a shelf. `run SOURCE SCRIPT` compiles the source, runs its image under the
-/// script, and prints the report; `exec IMAGE SCRIPT` runs an image. Answers a status: 0 where every process ended, 1
-/// where the words are no command, 3 where the script is refused, 4 where the image is refused, 5 after a trap, 6 where
-/// some process has not ended and nothing can happen any more, 7 where the limit was reached, 8 where a foreign image
-/// stopped, 9 after a workspace check, 11 where the outside failed, 12 for want of memory, 14 where a file is too long,
-/// and 15 where the command or the form of the source is not built yet.
+/// script, and prints the report; `compile SOURCE IMAGE` saves the image; `exec IMAGE SCRIPT` runs an image. Answers a
+/// status: 0 where every process ended or the image was saved, 1 where the words are no command, 3 where the script is
+/// refused, 4 where the image is refused, 5 after a trap, 6 where some process has not ended and nothing can happen any
+/// more, 7 where the limit was reached, 8 where a foreign image stopped, 9 after a workspace check, 10 where the settings
+/// are refused, 11 where the outside failed, 12 for want of memory, 14 where a file is too long, and 15 where the command
+/// or the form of the source is not built yet.
 pub fn modula<S: Shelf>(alloc: Global, words: &[String], shelf: &mut S) -> u8
-    // What is answered, asked and printed, and why.
-    ensures ends { Ends (view (S.files shelf.old) (S.printed shelf.old) (S.asked shelf.old) (S.spare shelf.old) (S.faults shelf.old) (S.longs shelf.old)) (loads_of (command_of (map string_bytes words.now))) (IsAnswer (map string_bytes words.now)) result (view (S.files shelf.new) (S.printed shelf.new) (S.asked shelf.new) (S.spare shelf.new) (S.faults shelf.new) (S.longs shelf.new)) }
+    // What is answered, asked, printed and saved, and why.
+    ensures ends { EndsSaving (view (S.files shelf.old) (S.printed shelf.old) (S.asked shelf.old) (S.spare shelf.old) (S.faults shelf.old) (S.longs shelf.old)) (asks_of (command_of (map string_bytes words.now))) (target_of (command_of (map string_bytes words.now))) (IsAnswer (map string_bytes words.now)) result (view (S.files shelf.new) (S.printed shelf.new) (S.asked shelf.new) (S.spare shelf.new) (S.faults shelf.new) (S.longs shelf.new)) }
 
     // A compiled program never ends as a foreign image may.
     ensures own { IsRun (command_of (map string_bytes words.now)) → result ≢ 8 }

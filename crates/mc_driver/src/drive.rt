@@ -2,7 +2,7 @@
 
 ghost use Rattle.std.specs.Prelude.{◌≡◌, ◌+◌, ◌<◌, ℕ, [], ◌∷◌, length, IfOk, IfErr, OnOk, Some};
 ghost use Rattle.pdp_machine.specs.Run.{advances};
-ghost use Rattle.mc_driver.specs.Outside.{view, Streams, Breaks, lines_of};
+ghost use Rattle.mc_driver.specs.Outside.{view, Streams, Prints, Breaks, lines_of};
 ghost use Rattle.mc_driver.specs.Run.{ending_for, text_of};
 
 use crate::ending::{Origin, ending_at};
@@ -23,7 +23,7 @@ const LIVE: Word = 0o50;
 
 // Prints the held bytes, and lets them go.
 fn flush<S: Shelf>(pieces: &mut Pieces, shelf: &mut S) -> Result<(), PutFault>
-    ensures ok { OnOk result (Streams (view (S.files shelf.old) (S.printed shelf.old) (S.asked shelf.old) (S.spare shelf.old) (S.faults shelf.old) (S.longs shelf.old)) pieces.old [] (view (S.files shelf.new) (S.printed shelf.new) (S.asked shelf.new) (S.spare shelf.new) (S.faults shelf.new) (S.longs shelf.new)) pieces.new) }
+    ensures ok { OnOk result (Prints (view (S.files shelf.old) (S.printed shelf.old) (S.asked shelf.old) (S.spare shelf.old) (S.faults shelf.old) (S.longs shelf.old)) pieces.old (view (S.files shelf.new) (S.printed shelf.new) (S.asked shelf.new) (S.spare shelf.new) (S.faults shelf.new) (S.longs shelf.new))) }
     ensures none { OnOk result (pieces.new ≡ []) }
     ensures refused { IfErr result (λ fault. Breaks (view (S.files shelf.old) (S.printed shelf.old) (S.asked shelf.old) (S.spare shelf.old) (S.faults shelf.old) (S.longs shelf.old)) pieces.old [] fault (view (S.files shelf.new) (S.printed shelf.new) (S.asked shelf.new) (S.spare shelf.new) (S.faults shelf.new) (S.longs shelf.new))) }
 {
@@ -83,8 +83,8 @@ fn put_lines<S: Shelf>(
 ///
 /// # Errors
 ///
-/// `Failed` and `Memory` of a print. Then a first part of the lines was printed, and the machine stands after some of its
-/// advances.
+/// `Failed` and `Memory` of a print. Then a first part of the lines was printed, at `Memory` in whole pieces, and the machine
+/// stands after some of its advances.
 #[tactic(auto, unfolding(pdp_machine::specs::Run::advances))]
 pub fn drive<S: Shelf>(
     machine: &mut Machine,
@@ -115,7 +115,7 @@ pub fn drive<S: Shelf>(
 ///
 /// # Errors
 ///
-/// `Failed` and `Memory` of a print. Then a first part of the report was printed.
+/// `Failed` and `Memory` of a print. Then a first part of the report was printed, at `Memory` in whole pieces.
 pub fn print_report<S: Shelf>(
     machine: &mut Machine,
     pieces: &mut Pieces,
@@ -125,7 +125,7 @@ pub fn print_report<S: Shelf>(
 ) -> Result<Ending, PutFault>
     requires { pieces.old ≡ [] }
     ensures ending { IfOk result (λ ending. ending ≡ ending_for origin (advances (machine.old.limit + 1) machine.old).machine) }
-    ensures ok { OnOk result (Streams (view (S.files shelf.old) (S.printed shelf.old) (S.asked shelf.old) (S.spare shelf.old) (S.faults shelf.old) (S.longs shelf.old)) [] (text_of origin journal (advances (machine.old.limit + 1) machine.old)) (view (S.files shelf.new) (S.printed shelf.new) (S.asked shelf.new) (S.spare shelf.new) (S.faults shelf.new) (S.longs shelf.new)) []) }
+    ensures ok { OnOk result (Prints (view (S.files shelf.old) (S.printed shelf.old) (S.asked shelf.old) (S.spare shelf.old) (S.faults shelf.old) (S.longs shelf.old)) (text_of origin journal (advances (machine.old.limit + 1) machine.old)) (view (S.files shelf.new) (S.printed shelf.new) (S.asked shelf.new) (S.spare shelf.new) (S.faults shelf.new) (S.longs shelf.new))) }
     ensures refused { IfErr result (λ fault. Breaks (view (S.files shelf.old) (S.printed shelf.old) (S.asked shelf.old) (S.spare shelf.old) (S.faults shelf.old) (S.longs shelf.old)) [] (text_of origin journal (advances (machine.old.limit + 1) machine.old)) fault (view (S.files shelf.new) (S.printed shelf.new) (S.asked shelf.new) (S.spare shelf.new) (S.faults shelf.new) (S.longs shelf.new))) }
 {
     let stop = drive(machine, pieces, journal, shelf)?;

@@ -1,20 +1,29 @@
 // What commands ask of the outside besides reports: files that are loaded, and lines that are printed.
 
-ghost use Rattle.std.specs.Prelude.{◌≡◌, ◌≢◌, [], ◌∷◌, length, ℕ, List, IfOk, IfErr};
+ghost use Rattle.std.specs.Prelude.{◌≡◌, ◌≢◌, [], ◌∷◌, length, ℕ, List, Ok, IfOk, IfErr};
 ghost use Rattle.mc_shelf.specs.declared.ask.Ask.{Ask};
+ghost use Rattle.mc_words.specs.Settings.{AnswersSettings, numbers_of};
 ghost use Rattle.mc_image.specs.Format.{IsImage};
 ghost use Rattle.mc_script.specs.Texts.{IsText};
 ghost use Rattle.mc_driver.specs.Outside.{view, Loaded, Unloaded, Says, Ends};
-ghost use Rattle.mc_driver.specs.Answer.{most, too_long_line, AfterLoad, AfterImage, AfterScript};
+ghost use Rattle.mc_driver.specs.Answer.{most, too_long_line, AfterLoad, AfterImage, AfterScript, AfterReadingSettings};
 
-use crate::refusal::{image_line, script_line};
-use crate::status::{BAD_IMAGE, BAD_SCRIPT, FAILED, NO_MEMORY, TOO_LONG};
+use crate::refusal::{image_line, script_line, setting_line};
+use crate::status::{BAD_IMAGE, BAD_SCRIPT, BAD_SETTINGS, FAILED, NO_MEMORY, TOO_LONG};
 use mc_image::image::Image;
 use mc_image::read_image;
 use mc_script::read_script;
 use mc_script::script::Script;
 use mc_shelf::shelf::{LoadFault, PutFault, Shelf};
+use mc_word::word::Settings;
+use mc_words::read_settings;
 use std::alloc::Global;
+
+/// What is meant where no settings are given.
+pub const USUAL: Settings = Settings {
+    workspace_words: 200,
+    processes: 16,
+};
 
 /// What a file holds.
 #[derive(Clone, Copy, PartialEq, Eq, Debug)]
@@ -22,6 +31,7 @@ pub enum FileKind {
     Source,
     Script,
     Image,
+    Settings,
 }
 
 impl FileKind {
@@ -33,6 +43,7 @@ impl FileKind {
             FileKind::Source => 262_144,
             FileKind::Script => 1_048_576,
             FileKind::Image => 131_072,
+            FileKind::Settings => 4_096,
         }
     }
 
@@ -44,6 +55,7 @@ impl FileKind {
             FileKind::Source => b"too long source\n",
             FileKind::Script => b"too long script\n",
             FileKind::Image => b"too long image\n",
+            FileKind::Settings => b"too long settings\n",
         }
     }
 }
@@ -125,6 +137,29 @@ pub fn load_script<S: Shelf>(alloc: Global, name: &str, shelf: &mut S) -> Result
         Ok(script) => Ok(script),
         Err(fault) => match script_line(fault) {
             Some(line) => Err(say(shelf, line.as_slice(), BAD_SCRIPT)),
+            None => Err(NO_MEMORY),
+        },
+    }
+}
+
+/// Loads and reads settings.
+///
+/// # Errors
+///
+/// The status of the answer, whose line is printed where it has one.
+pub fn load_settings<S: Shelf>(alloc: Global, name: &str, shelf: &mut S) -> Result<Settings, u8>
+    ensures ok { IfOk result (λ settings. (bytes : List ℕ) × Loaded (view (S.files shelf.old) (S.printed shelf.old) (S.asked shelf.old) (S.spare shelf.old) (S.faults shelf.old) (S.longs shelf.old)) name.now 4096 bytes (view (S.files shelf.new) (S.printed shelf.new) (S.asked shelf.new) (S.spare shelf.new) (S.faults shelf.new) (S.longs shelf.new)) × AnswersSettings bytes (Ok (numbers_of settings))) }
+    ensures refused { IfErr result (λ status. Ends (view (S.files shelf.old) (S.printed shelf.old) (S.asked shelf.old) (S.spare shelf.old) (S.faults shelf.old) (S.longs shelf.old)) (Ask.Load name.now ∷ []) (AfterLoad FileKind.Settings name.now (λ bytes. AfterReadingSettings bytes (λ numbers status line. ⊥))) status (view (S.files shelf.new) (S.printed shelf.new) (S.asked shelf.new) (S.spare shelf.new) (S.faults shelf.new) (S.longs shelf.new))) }
+    ensures own { IfErr result (λ status. status ≢ 8) }
+{
+    let bytes = match load(alloc, name, FileKind::Settings, shelf) {
+        Ok(bytes) => bytes,
+        Err(status) => return Err(status),
+    };
+    match read_settings(alloc, bytes.as_slice()) {
+        Ok(settings) => Ok(settings),
+        Err(fault) => match setting_line(fault) {
+            Some(line) => Err(say(shelf, line.as_slice(), BAD_SETTINGS)),
             None => Err(NO_MEMORY),
         },
     }

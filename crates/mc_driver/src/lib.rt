@@ -2,6 +2,7 @@
 #![tactic(auto)]
 
 mod command;
+mod compile;
 mod drive;
 mod ending;
 mod files;

@@ -1,12 +1,13 @@
 // The lines in which an image or a script is refused. Their form is this project's own.
 
 ghost use Rattle.std.specs.Prelude.{◌≡◌, ◌≢◌, ◌≤◌, ◌++◌, length, codes, MatchOption};
-ghost use Rattle.mc_driver.specs.Refusal.{place_text, image_place, image_fault_name, image_line, script_place, script_fault_name, script_line};
+ghost use Rattle.mc_driver.specs.Refusal.{place_text, image_place, image_fault_name, image_line, script_place, script_fault_name, script_line, setting_fault_name, setting_line};
 
 use arrayvec::ArrayVec;
 use mc_image::fault::ImageFault;
 use mc_report::digits::{decimal_digits, put};
 use mc_script::fault::ScriptFault;
+use mc_words::SettingFault;
 
 // The place of an image's fault, in bytes from 0, where it has one.
 fn image_place(fault: ImageFault) -> Option<usize>
@@ -67,6 +68,19 @@ fn script_fault_name(fault: ScriptFault) -> &'static [u8]
     }
 }
 
+fn setting_fault_name(fault: SettingFault) -> &'static [u8]
+    ensures value { result.now ≡ setting_fault_name fault }
+    ensures short { length result.now ≤ 16 }
+{
+    match fault {
+        SettingFault::NotToml => b"NotToml",
+        SettingFault::UnknownKey => b"UnknownKey",
+        SettingFault::BadKind => b"BadKind",
+        SettingFault::OutOfRange => b"OutOfRange",
+        SettingFault::Memory => b"Memory",
+    }
+}
+
 // A line of a noun, a place where there is one, and a name.
 fn line_of(noun: &[u8], place: Option<usize>, name: &[u8]) -> ArrayVec<u8, 64>
     requires noun { length noun.now ≤ 16 }
@@ -102,4 +116,14 @@ pub fn script_line(fault: ScriptFault) -> Option<ArrayVec<u8, 64>>
         return None;
     }
     Some(line_of(b"script ", script_place(fault), script_fault_name(fault)))
+}
+
+/// `settings NAME`; none for want of memory, which is no fault.
+pub fn setting_line(fault: SettingFault) -> Option<ArrayVec<u8, 64>>
+    ensures { MatchOption result (fault ≡ SettingFault.Memory) (λ line. (fault ≢ SettingFault.Memory) × (line.items ≡ setting_line fault)) }
+{
+    if fault == SettingFault::Memory {
+        return None;
+    }
+    Some(line_of(b"settings ", None, setting_fault_name(fault)))
 }

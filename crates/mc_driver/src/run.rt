@@ -1,21 +1,24 @@
 // The commands that run the machine.
 
-ghost use Rattle.std.specs.Prelude.{◌≡◌, ◌≢◌, ◌≤◌, [], ◌∷◌, length, IsSome};
+ghost use Rattle.std.specs.Prelude.{◌≡◌, ◌≢◌, ◌≤◌, [], ◌∷◌, ◌++◌, length, IsSome, option_map};
 ghost use Rattle.mc_shelf.specs.declared.ask.Ask.{Ask};
 ghost use Rattle.pdp_machine.specs.Run.{machine_run};
 ghost use Rattle.mc_driver.specs.Outside.{view, Ends};
 ghost use Rattle.mc_driver.specs.Run.{status_of, ending_for, IsReport};
-ghost use Rattle.mc_driver.specs.Answer.{AfterSource, IsRunAnswer, IsExecAnswer};
+ghost use Rattle.mc_words.specs.Settings.{numbers_of};
+ghost use Rattle.mc_driver.specs.Answer.{AfterSource, IsRunUnder, IsRunAnswer, IsExecAnswer, settings_load};
 
+use crate::compile::image_of;
 use crate::drive::print_report;
 use crate::ending::{Origin, status_of};
-use crate::files::{FileKind, load, load_image, load_script, say};
+use crate::files::{FileKind, USUAL, load, load_image, load_script, load_settings, say};
 use crate::status::{FAILED, NO_MEMORY, NOT_YET};
-use mc_compile::compile::{Refusal, compile};
+use mc_compile::compile::Refusal;
 use mc_image::image::Image;
 use mc_report::pieces::Pieces;
 use mc_script::script::Script;
 use mc_shelf::shelf::{PutFault, Shelf};
+use mc_word::word::Settings;
 use pdp_machine::machine::Machine;
 use std::alloc::Global;
 
@@ -45,28 +48,36 @@ fn play<S: Shelf>(
     }
 }
 
-// Compiles a source, runs its image under a script, and prints the report.
+// Compiles a source, reads its image from the bytes that are written of it, runs it under a script, and prints the report.
 fn run_source<S: Shelf>(
     alloc: Global,
     source: &[u8],
     script: &Script,
+    settings: Settings,
     journal: bool,
     shelf: &mut S,
 ) -> u8
     requires { length source.now ≤ 262144 }
-    ensures ends { Ends (view (S.files shelf.old) (S.printed shelf.old) (S.asked shelf.old) (S.spare shelf.old) (S.faults shelf.old) (S.longs shelf.old)) [] (λ files. AfterSource source.now journal script.now) result (view (S.files shelf.new) (S.printed shelf.new) (S.asked shelf.new) (S.spare shelf.new) (S.faults shelf.new) (S.longs shelf.new)) }
+    ensures ends { Ends (view (S.files shelf.old) (S.printed shelf.old) (S.asked shelf.old) (S.spare shelf.old) (S.faults shelf.old) (S.longs shelf.old)) [] (λ files. AfterSource source.now (numbers_of settings) journal script.now) result (view (S.files shelf.new) (S.printed shelf.new) (S.asked shelf.new) (S.spare shelf.new) (S.faults shelf.new) (S.longs shelf.new)) }
     ensures own { result ≢ 8 }
 {
-    match compile(alloc, source) {
+    match image_of(alloc, source, settings) {
         Ok(image) => play(alloc, &image, script, Origin::Compiled, journal, shelf),
         Err(Refusal::NotYet) => say(shelf, b"not yet source\n", NOT_YET),
         Err(Refusal::Memory) => NO_MEMORY,
     }
 }
 
-/// The command `run`.
-pub fn run<S: Shelf>(alloc: Global, source: &str, script: &str, journal: bool, shelf: &mut S) -> u8
-    ensures ends { Ends (view (S.files shelf.old) (S.printed shelf.old) (S.asked shelf.old) (S.spare shelf.old) (S.faults shelf.old) (S.longs shelf.old)) (Ask.Load source.now ∷ Ask.Load script.now ∷ []) (IsRunAnswer source.now script.now journal) result (view (S.files shelf.new) (S.printed shelf.new) (S.asked shelf.new) (S.spare shelf.new) (S.faults shelf.new) (S.longs shelf.new)) }
+// The command `run` under settings.
+fn run_under<S: Shelf>(
+    alloc: Global,
+    source: &str,
+    script: &str,
+    settings: Settings,
+    journal: bool,
+    shelf: &mut S,
+) -> u8
+    ensures ends { Ends (view (S.files shelf.old) (S.printed shelf.old) (S.asked shelf.old) (S.spare shelf.old) (S.faults shelf.old) (S.longs shelf.old)) (Ask.Load source.now ∷ Ask.Load script.now ∷ []) (λ files. IsRunUnder source.now script.now journal files (numbers_of settings)) result (view (S.files shelf.new) (S.printed shelf.new) (S.asked shelf.new) (S.spare shelf.new) (S.faults shelf.new) (S.longs shelf.new)) }
     ensures own { result ≢ 8 }
 {
     let source = match load(alloc, source, FileKind::Source, shelf) {
@@ -77,7 +88,28 @@ pub fn run<S: Shelf>(alloc: Global, source: &str, script: &str, journal: bool, s
         Ok(script) => script,
         Err(status) => return status,
     };
-    run_source(alloc, source.as_slice(), &script, journal, shelf)
+    run_source(alloc, source.as_slice(), &script, settings, journal, shelf)
+}
+
+/// The command `run`.
+pub fn run<S: Shelf>(
+    alloc: Global,
+    source: &str,
+    script: &str,
+    settings: Option<&str>,
+    journal: bool,
+    shelf: &mut S,
+) -> u8
+    ensures ends { Ends (view (S.files shelf.old) (S.printed shelf.old) (S.asked shelf.old) (S.spare shelf.old) (S.faults shelf.old) (S.longs shelf.old)) (settings_load (option_map (λ s. s.now) settings.entry) ++ Ask.Load source.now ∷ Ask.Load script.now ∷ []) (IsRunAnswer source.now script.now (option_map (λ s. s.now) settings.entry) journal) result (view (S.files shelf.new) (S.printed shelf.new) (S.asked shelf.new) (S.spare shelf.new) (S.faults shelf.new) (S.longs shelf.new)) }
+    ensures own { result ≢ 8 }
+{
+    match settings {
+        None => run_under(alloc, source, script, USUAL, journal, shelf),
+        Some(name) => match load_settings(alloc, name, shelf) {
+            Ok(settings) => run_under(alloc, source, script, settings, journal, shelf),
+            Err(status) => status,
+        },
+    }
 }
 
 /// The command `exec`.

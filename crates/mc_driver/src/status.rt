@@ -1,5 +1,8 @@
 // The statuses of the answers that are no report.
 
+/// The command is done.
+pub const DONE: u8 = 0;
+
 /// The words are no command.
 pub const WORDS: u8 = 1;
 
@@ -8,6 +11,9 @@ pub const BAD_SCRIPT: u8 = 3;
 
 /// The image is refused.
 pub const BAD_IMAGE: u8 = 4;
+
+/// The settings are refused.
+pub const BAD_SETTINGS: u8 = 10;
 
 /// A load or a print failed.
 pub const FAILED: u8 = 11;

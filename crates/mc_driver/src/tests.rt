@@ -17,8 +17,8 @@ const PRINTS_A_B: &str =
 const PUNCHES_A: &str =
     "device module m [4]; var PPB [177556B]: char; begin PPB (* one byte *) := 'A' end m.";
 
-/// What is printed for `PRINTS_A`, where N stands for digits.
-const PRINTED_A: &str = "print 101\ninstructions N\nend\n";
+/// What is printed for `PRINTS_A`, where `#` stands for digits.
+const PRINTED_A: &str = "print 101\ninstructions #\nend\n";
 
 /// The words of a command, which have no blanks in them.
 fn words(alloc: Global, command: &str) -> Result<Vec<String>, Fail> {
@@ -47,9 +47,9 @@ fn shelf(alloc: Global, source: &[u8], script: &[u8], failing: &[u64]) -> Result
     Ok(MemShelf::new(alloc, files, Vec::from_slice(alloc, failing)?))
 }
 
-/// Whether the bytes are this text, where N stands for digits.
+/// Whether the bytes are this text, where `#` stands for digits.
 fn is_like(bytes: &[u8], text: &str) -> bool {
-    match text.split_once("N") {
+    match text.split_once("#") {
         None => bytes == text.as_bytes(),
         Some((before, after)) => bytes
             .strip_prefix(before.as_bytes())
@@ -132,10 +132,10 @@ fn answers_words(rt: HostRuntime) -> Result<(), Fail> {
         ("run a --", 1, "words\n"),
         ("run a b c", 1, "words\n"),
         ("exec a b --settings c", 1, "words\n"),
-        ("run a b --settings c", 15, "not yet words\n"),
-        ("compile a b", 15, "not yet words\n"),
+        ("compile --journal a b", 1, "words\n"),
         ("check a", 15, "not yet words\n"),
         ("generate 26", 15, "not yet words\n"),
+        ("self 3", 15, "not yet words\n"),
     ] {
         let words = words(alloc, command)?;
         // The words come before the files, which would be refused too.
@@ -235,6 +235,204 @@ fn answers_images(rt: HostRuntime) -> Result<(), Fail> {
 }
 
 #[test]
+fn answers_foreign_images(rt: HostRuntime) -> Result<(), Fail> {
+    let alloc = rt.alloc();
+    let exec = words(alloc, "exec a b")?;
+    for (block, text) in [
+        // MOV @#1, R0 reads an odd address.
+        (
+            [1, 0, 10, 0, 0, 2, 0o300, 0o27, 1, 0, 0o33].as_slice(),
+            "instructions 0\nbus fault 000001\n",
+        ),
+        // BPT with the stack at 0: its first push goes to the status word, and its second faults.
+        (
+            [1, 0, 8, 0, 0, 2, 3, 0, 0o362].as_slice(),
+            "instructions 0\nbus fault 177774\n",
+        ),
+        // MOV #0, @#1006 writes a HALT over the WAIT that follows it.
+        (
+            [1, 0, 14, 0, 0, 2, 0o337, 0o25, 0, 0, 6, 2, 1, 0, 0o362].as_slice(),
+            "instructions 2\nhalt\n",
+        ),
+        // JSR PC, @#1010 pushes its return address into the status word, and goes on to a word of zero.
+        (
+            [1, 0, 10, 0, 0, 2, 0o337, 0o11, 8, 2, 1].as_slice(),
+            "instructions 2\nhalt\n",
+        ),
+    ] {
+        let mut image = Vec::from_slice(alloc, block)?;
+        image.extend_from_slice(&[1, 0, 6, 0, 0, 2, 0o367])?;
+        let mut shelf = shelf(alloc, image.as_slice(), b"", &[])?;
+        assert_eq!(rt; modula(alloc, &exec, &mut shelf), 8, "at {text}");
+        assert_eq!(rt; shelf.printed(), text.as_bytes(), "at {text}");
+    }
+    Ok(())
+}
+
+#[test]
+fn answers_images_that_are_cut(rt: HostRuntime) -> Result<(), Fail> {
+    let alloc = rt.alloc();
+    let exec = words(alloc, "exec a b")?;
+    for k in 0..22usize {
+        let text = match k {
+            0 | 15 => "image NoStart\n",
+            1..=14 => "image 0 Truncated\n",
+            _ => "image 15 Truncated\n",
+        };
+        let mut shelf = shelf(alloc, &HALTS[..k], b"", &[])?;
+        assert_eq!(rt; modula(alloc, &exec, &mut shelf), 4, "at {k}");
+        assert_eq!(rt; shelf.printed(), text.as_bytes(), "at {k}");
+    }
+    Ok(())
+}
+
+#[test]
+fn answers_scripts_that_are_cut(rt: HostRuntime) -> Result<(), Fail> {
+    let alloc = rt.alloc();
+    let run = words(alloc, "run a b")?;
+    let script = b"clock 25";
+    for k in 0..9usize {
+        let (status, text) = match k {
+            0 | 7 | 8 => (0, PRINTED_A),
+            _ => (3, "script 1 BadLine\n"),
+        };
+        let mut shelf = shelf(alloc, PRINTS_A.as_bytes(), &script[..k], &[])?;
+        assert_eq!(rt; modula(alloc, &run, &mut shelf), status, "at {k}");
+        assert!(rt; is_like(shelf.printed(), text), "at {k}");
+    }
+    Ok(())
+}
+
+/// A shelf as `shelf`, with settings `c`.
+fn with_settings(alloc: Global, settings: &str, failing: &[u64]) -> Result<MemShelf, Fail> {
+    let files = files(
+        alloc,
+        &[
+            ("a", PRINTS_A.as_bytes()),
+            ("b", b""),
+            ("c", settings.as_bytes()),
+        ],
+    )?;
+    Ok(MemShelf::new(alloc, files, Vec::from_slice(alloc, failing)?))
+}
+
+#[test]
+fn answers_settings(rt: HostRuntime) -> Result<(), Fail> {
+    let alloc = rt.alloc();
+    for (command, settings, status, text, asked) in [
+        ("run a b --settings c", "", 0, PRINTED_A, 3),
+        ("run a b --settings c", "processes = 32", 0, PRINTED_A, 3),
+        (
+            "run a b --settings=c",
+            "processes = 1",
+            10,
+            "settings OutOfRange\n",
+            1,
+        ),
+        (
+            "run a b --settings c",
+            "procs = 4",
+            10,
+            "settings UnknownKey\n",
+            1,
+        ),
+        (
+            "run a b --settings c",
+            "processes = \"4\"",
+            10,
+            "settings BadKind\n",
+            1,
+        ),
+        (
+            "run a b --settings c",
+            "processes =",
+            10,
+            "settings NotToml\n",
+            1,
+        ),
+        ("run a b --settings d", "", 11, "", 1),
+        ("compile a i --settings c", "", 0, "image 49\n", 3),
+        (
+            "compile a i --settings c",
+            "procs = 4",
+            10,
+            "settings UnknownKey\n",
+            1,
+        ),
+    ] {
+        let words = words(alloc, command)?;
+        let mut shelf = with_settings(alloc, settings, &[])?;
+        assert_eq!(rt;
+            modula(alloc, &words, &mut shelf),
+            status,
+            "at {command}, {settings}"
+        );
+        assert!(rt; is_like(shelf.printed(), text), "at {command}, {settings}");
+        assert_eq!(rt; shelf.asked().len(), asked, "at {command}, {settings}");
+        let saved = shelf.file("i").is_some();
+        assert_eq!(rt; saved, text == "image 49\n", "at {command}, {settings}");
+    }
+    Ok(())
+}
+
+#[test]
+fn answers_calls_that_fail_with_settings(rt: HostRuntime) -> Result<(), Fail> {
+    let alloc = rt.alloc();
+    let run = words(alloc, "run a b --settings c")?;
+    // Three loads, and the print of a report of 29 bytes.
+    for (failing, printed) in [(1, ""), (2, ""), (3, ""), (4, "print 101\ninst")] {
+        let mut shelf = with_settings(alloc, "", &[failing])?;
+        assert_eq!(rt; modula(alloc, &run, &mut shelf), 11, "at {failing}");
+        assert_eq!(rt; shelf.printed(), printed.as_bytes(), "at {failing}");
+    }
+    Ok(())
+}
+
+#[test]
+fn saves_images(rt: HostRuntime) -> Result<(), Fail> {
+    let alloc = rt.alloc();
+    let compile = words(alloc, "compile a i")?;
+    // A block of the word at 50 octal has 9 bytes, one of 13 words of code has 33, and the start block has 7. The calls are
+    // a load, a save and a print.
+    for (failing, status, printed, saved) in [
+        (0, 0, "image 49\n", Some(49)),
+        (1, 11, "", None),
+        (2, 11, "", None),
+        (3, 11, "imag", Some(49)),
+    ] {
+        let mut shelf = shelf(alloc, PRINTS_A.as_bytes(), b"limit 9", &[failing])?;
+        assert_eq!(rt; modula(alloc, &compile, &mut shelf), status, "at {failing}");
+        assert_eq!(rt; shelf.printed(), printed.as_bytes(), "at {failing}");
+        assert_eq!(rt;
+            shelf.file("i").map(|bytes| bytes.len()),
+            saved,
+            "at {failing}"
+        );
+        for (name, bytes) in [("a", PRINTS_A), ("-", PRINTS_A), ("b", "limit 9")] {
+            let same = shelf.file(name).is_some_and(|now| now == bytes.as_bytes());
+            assert!(rt; same, "{name} at {failing}");
+        }
+    }
+    Ok(())
+}
+
+#[test]
+fn runs_an_image_that_was_saved(rt: HostRuntime) -> Result<(), Fail> {
+    let alloc = rt.alloc();
+    let mut shelf = shelf(alloc, PRINTS_A.as_bytes(), b"limit 100000", &[])?;
+    for (command, status) in [("compile a i", 0), ("exec i b", 8), ("run a b", 0)] {
+        let words = words(alloc, command)?;
+        assert_eq!(rt; modula(alloc, &words, &mut shelf), status, "at {command}");
+    }
+    // As a foreign image it is silent where the program is at its end.
+    assert_eq!(rt;
+        shelf.printed(),
+        b"image 49\nprint 101\ninstructions 5\nsilent\nprint 101\ninstructions 5\nend\n".as_slice()
+    );
+    Ok(())
+}
+
+#[test]
 fn shows_events_with_the_journal(rt: HostRuntime) -> Result<(), Fail> {
     let alloc = rt.alloc();
     let run = words(alloc, "run --journal a b")?;
@@ -276,6 +474,16 @@ fn answers_files_that_are_too_long(rt: HostRuntime) -> Result<(), Fail> {
         ("run a b", 262_145, 1, 14, "too long source\n", 1),
         ("run a b", 1, 1_048_577, 14, "too long script\n", 2),
         ("exec a b", 131_073, 1, 14, "too long image\n", 1),
+        (
+            "run a a --settings b",
+            1,
+            4_097,
+            14,
+            "too long settings\n",
+            1,
+        ),
+        ("compile a i", 262_145, 1, 14, "too long source\n", 1),
+        ("compile a i", 1, 1, 15, "not yet source\n", 1),
     ] {
         let words = words(alloc, command)?;
         let source: Vec<u8> = vec![in alloc; b' '; source]?;

@@ -30,5 +30,5 @@ returns-clause-ok c =
     let straight = subst (λ (o : Option Straight). MatchOption o ((form : Straight) → IsStraight tokens form → ⊥) (λ form. IsStraight tokens form)) c.in-Some.is c.in_ok-form.ensures in
     let words : c.as_slice.result.now ≡ code_of form = c.as_slice.ensures.value ∙ c.in_ok-words.ensures in
     let spelled = subst (λ (l : List Token). Spells l c.in-Ok.scanned.end c.args.source.now) (sym c.as_slice-tokens.ensures) c.in-Ok.ensures.ok in
-    let whole = compiled_from tokens c.in-Ok.scanned.end c.args.source.now form spelled straight in
-    subst (λ (i : ImageState). CompiledFrom c.args.source.now 200 16 i) (sym (c.in_ok-image.ensures ∙ ap image_of words)) whole
+    let whole = compiled_from tokens c.in-Ok.scanned.end c.args.source.now form c.args.settings.workspace_words c.args.settings.processes (omega (arith, c.args.settings.processes_least)) spelled straight in
+    subst (λ (i : ImageState). CompiledFrom c.args.source.now c.args.settings.workspace_words c.args.settings.processes i) (sym (c.in_ok-image.ensures ∙ ap image_of words)) whole

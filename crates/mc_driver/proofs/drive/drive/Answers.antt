@@ -1,7 +1,6 @@
-use Rattle.std.proofs.Common.{◌≡◌, ◌<◌, ◌≤◌, ◌+◌, ◌-◌, zero, suc, ℕ, Bool, true, List, [], ◌∷◌, ◌++◌, length, Option, Some, refl, sym, ap, ◌∙◌, subst, arith}
+use Rattle.std.proofs.Common.{◌≡◌, ◌<◌, ◌+◌, ◌-◌, suc, ℕ, Bool, List, [], ◌++◌, length, Some, refl, sym, ap, ◌∙◌, subst, arith}
 use Rattle.mc_shelf.specs.declared.shelf.PutFault.{PutFault}
 use Rattle.pdp_dev.specs.declared.entry.Entry.{Entry}
-use Rattle.pdp_machine.specs.declared.stop.Stop.{Stop}
 use Rattle.pdp_machine.specs.Timed.{Timed, Advanced}
 use Rattle.pdp_machine.specs.Run.{advances}
 use Rattle.mc_driver.specs.Outside.{View, view, Streams, Breaks, lines_of}

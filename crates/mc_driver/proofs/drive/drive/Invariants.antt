@@ -1,4 +1,4 @@
-use Rattle.std.proofs.Common.{◌≡◌, ◌<◌, ◌≤◌, [], length, None}
+use Rattle.std.proofs.Common.{◌≡◌, ◌<◌, ◌≤◌, [], length}
 use Rattle.pdp_machine.specs.Run.{advances}
 use Rattle.mc_driver.specs.Outside.{view, Streams, lines_of}
 use Rattle.mc_driver.proofs.drive.drive.Given as goal

@@ -1,4 +1,4 @@
-use Rattle.std.proofs.Common.{◌≡◌, ◌+◌, ◌<◌, ℕ, Bool, List, [], ◌++◌, length, Option, refl, sym, ap, ◌∙◌, subst, arith, append_assoc}
+use Rattle.std.proofs.Common.{◌≡◌, ◌+◌, ℕ, Bool, List, [], ◌++◌, Option, sym, ap, ◌∙◌, subst}
 use Rattle.std.proofs.lemmas.List.{append-nil}
 use Rattle.mc_shelf.specs.declared.shelf.PutFault.{PutFault}
 use Rattle.pdp_machine.specs.declared.stop.Stop.{Stop}
@@ -7,8 +7,8 @@ use Rattle.pdp_machine.specs.Run.{advances}
 use Rattle.mc_report.specs.declared.ending.Ending.{Ending}
 use Rattle.mc_report.specs.Report.{count_line, ending_line}
 use Rattle.mc_driver.specs.Outside.{View, view, Streams, Breaks, lines_of}
-use Rattle.mc_driver.specs.Run.{ending_at, ending_for, text_of, trap_word}
-use Rattle.mc_driver.proofs.Streams.{streams_then, breaks_then, breaks_before, handed_on}
+use Rattle.mc_driver.specs.Run.{ending_at, ending_for, trap_word}
+use Rattle.mc_driver.proofs.Streams.{streams_then, streams_print, breaks_then, breaks_before, handed_on}
 use Rattle.mc_driver.proofs.drive.print_report.Goals as goal
 
 pub returns-in_err-stop-clause-refused : goal.returns-in_err-stop-clause-refused
@@ -85,5 +85,4 @@ returns-clause-ok g c =
     c.as_slice.ensures.value ∙ c.last_lines-lines.ensures ∙ ap (λ (n : ℕ). count_line n ++ ending_line c.ending_at-ending.result) count ∙ ap (λ (e : Ending). count_line run.machine.instructions ++ ending_line e) ends in
     let both : Streams v [] (lines_of journal run.entries ++ last) w c.put.new.pieces =
     streams_then v u w [] (lines_of journal run.entries) c.drive.new.pieces last c.put.new.pieces c.in_ok-stop.ensures.ok (subst (λ (l : List ℕ). Streams u c.drive.new.pieces l w c.put.new.pieces) said c.in_ok-put.ensures.ok) in
-    let all = streams_then v w z [] (lines_of journal run.entries ++ last) c.put.new.pieces [] c.flush.new.pieces both c.in_ok-flush.ensures.ok in
-    subst (λ (l : List ℕ). Streams v [] l z []) (append-nil (lines_of journal run.entries ++ last)) (subst (λ (p : List ℕ). Streams v [] ((lines_of journal run.entries ++ last) ++ []) z p) c.in_ok-flush.ensures.none all)
+    streams_print v w z [] (lines_of journal run.entries ++ last) c.put.new.pieces both c.in_ok-flush.ensures.ok

@@ -1,41 +1,45 @@
-use Rattle.std.proofs.Common.{◌≡◌, ℕ, Bool, List, [], ◌∷◌, sym, subst}
+use Rattle.std.proofs.Common.{◌≡◌, ℕ, Bool, List, [], ◌∷◌, ◌++◌, Option, Some, None, sym, ap, subst}
+use Rattle.std.specs.Prelude.{option_map}
 use Rattle.mc_shelf.specs.declared.ask.Ask.TheVariants.{Load}
-use Rattle.mc_script.specs.Script.{ScriptState}
-use Rattle.mc_driver.specs.declared.files.FileKind.TheVariants.{Source, Script}
+use Rattle.mc_words.specs.Settings.{numbers_of}
 use Rattle.mc_driver.specs.Outside.{View, view, Ends}
-use Rattle.mc_driver.specs.Answer.{AfterLoad, AfterScript, AfterSource}
-use Rattle.mc_driver.proofs.Endings.{not_loaded, after_load, no_script_ends, after_script}
+use Rattle.mc_driver.specs.Answer.{IsRunUnder, IsRunAnswer, settings_load}
+use Rattle.mc_driver.proofs.Endings.{after_settings, no_settings_end}
 use Rattle.mc_driver.proofs.run.run.Goals as goal
+
+pub returns-in-None-clause-ends : goal.returns-in-None-clause-ends
+returns-in-None-clause-ends g c =
+    let S = g.S.Shelf in
+    let v : View = view (S.files c.args.shelf.now) (S.printed c.args.shelf.now) (S.asked c.args.shelf.now) (S.spare c.args.shelf.now) (S.faults c.args.shelf.now) (S.longs c.args.shelf.now) in
+    let w : View = view (S.files c.run_under.new.shelf) (S.printed c.run_under.new.shelf) (S.asked c.run_under.new.shelf) (S.spare c.run_under.new.shelf) (S.faults c.run_under.new.shelf) (S.longs c.run_under.new.shelf) in
+    let source : List ℕ = c.args.source.now in
+    let script : List ℕ = c.args.script.now in
+    let journal : Bool = c.args.journal in
+    let is : option_map (λ t. t.now) c.args.settings ≡ None = ap (λ s. option_map (λ t. t.now) s) c.in-None.is in
+    subst (λ (o : Option (List ℕ)). Ends v (settings_load o ++ Load source ∷ Load script ∷ []) (IsRunAnswer source script o journal) c.run_under.result w) (sym is) c.run_under.ensures.ends
+
+pub returns-in-Ok-clause-ends : goal.returns-in-Ok-clause-ends
+returns-in-Ok-clause-ends g c =
+    let S = g.S.Shelf in
+    let v : View = view (S.files c.args.shelf.now) (S.printed c.args.shelf.now) (S.asked c.args.shelf.now) (S.spare c.args.shelf.now) (S.faults c.args.shelf.now) (S.longs c.args.shelf.now) in
+    let w : View = view (S.files c.run_under-in-Ok.new.shelf) (S.printed c.run_under-in-Ok.new.shelf) (S.asked c.run_under-in-Ok.new.shelf) (S.spare c.run_under-in-Ok.new.shelf) (S.faults c.run_under-in-Ok.new.shelf) (S.longs c.run_under-in-Ok.new.shelf) in
+    let source : List ℕ = c.args.source.now in
+    let script : List ℕ = c.args.script.now in
+    let journal : Bool = c.args.journal in
+    let is : option_map (λ t. t.now) c.args.settings ≡ Some c.in-Some.name.now = ap (λ s. option_map (λ t. t.now) s) c.in-Some.is in
+    let u : View = view (S.files c.load_settings.new.shelf) (S.printed c.load_settings.new.shelf) (S.asked c.load_settings.new.shelf) (S.spare c.load_settings.new.shelf) (S.faults c.load_settings.new.shelf) (S.longs c.load_settings.new.shelf) in
+    let bytes = c.in-Ok.ensures.ok in
+    subst (λ (o : Option (List ℕ)). Ends v (settings_load o ++ Load source ∷ Load script ∷ []) (IsRunAnswer source script o journal) c.run_under-in-Ok.result w) (sym is)
+    (after_settings v u w c.in-Some.name.now bytes.0 (numbers_of c.in-Ok.settings) (Load source ∷ Load script ∷ []) (λ files. IsRunUnder source script journal files) c.run_under-in-Ok.result bytes.1 bytes.2 c.run_under-in-Ok.ensures.ends)
 
 pub returns-in-Err-clause-ends : goal.returns-in-Err-clause-ends
 returns-in-Err-clause-ends g c =
-    not_loaded _ _ Source c.args.source.now (Load c.args.script.now ∷ []) (λ files bytes. AfterLoad Script c.args.script.now (λ lines. AfterScript lines (AfterSource bytes c.args.journal)) files) _ c.in-Err.ensures.refused
-
-pub returns-in-Err-load_script-clause-ends : goal.returns-in-Err-load_script-clause-ends
-returns-in-Err-load_script-clause-ends g c =
     let S = g.S.Shelf in
     let v : View = view (S.files c.args.shelf.now) (S.printed c.args.shelf.now) (S.asked c.args.shelf.now) (S.spare c.args.shelf.now) (S.faults c.args.shelf.now) (S.longs c.args.shelf.now) in
-    let u : View = view (S.files c.load.new.shelf) (S.printed c.load.new.shelf) (S.asked c.load.new.shelf) (S.spare c.load.new.shelf) (S.faults c.load.new.shelf) (S.longs c.load.new.shelf) in
-    let w : View = view (S.files c.load_script.new.shelf) (S.printed c.load_script.new.shelf) (S.asked c.load_script.new.shelf) (S.spare c.load_script.new.shelf) (S.faults c.load_script.new.shelf) (S.longs c.load_script.new.shelf) in
-    let bytes : List ℕ = c.in-Ok.source.items in
+    let w : View = view (S.files c.load_settings.new.shelf) (S.printed c.load_settings.new.shelf) (S.asked c.load_settings.new.shelf) (S.spare c.load_settings.new.shelf) (S.faults c.load_settings.new.shelf) (S.longs c.load_settings.new.shelf) in
+    let source : List ℕ = c.args.source.now in
+    let script : List ℕ = c.args.script.now in
     let journal : Bool = c.args.journal in
-    let name : List ℕ = c.args.script.now in
-    after_load v u w Source c.args.source.now bytes (Load name ∷ []) (λ files b. AfterLoad Script name (λ lines. AfterScript lines (AfterSource b journal)) files) _ c.in-Ok.ensures.ok
-    (no_script_ends u w name (AfterSource bytes journal) _ c.in-Err-load_script.ensures.refused)
-
-pub returns-clause-ends : goal.returns-clause-ends
-returns-clause-ends g c =
-    let S = g.S.Shelf in
-    let v : View = view (S.files c.args.shelf.now) (S.printed c.args.shelf.now) (S.asked c.args.shelf.now) (S.spare c.args.shelf.now) (S.faults c.args.shelf.now) (S.longs c.args.shelf.now) in
-    let u : View = view (S.files c.load.new.shelf) (S.printed c.load.new.shelf) (S.asked c.load.new.shelf) (S.spare c.load.new.shelf) (S.faults c.load.new.shelf) (S.longs c.load.new.shelf) in
-    let u2 : View = view (S.files c.load_script.new.shelf) (S.printed c.load_script.new.shelf) (S.asked c.load_script.new.shelf) (S.spare c.load_script.new.shelf) (S.faults c.load_script.new.shelf) (S.longs c.load_script.new.shelf) in
-    let w : View = view (S.files c.run_source.new.shelf) (S.printed c.run_source.new.shelf) (S.asked c.run_source.new.shelf) (S.spare c.run_source.new.shelf) (S.faults c.run_source.new.shelf) (S.longs c.run_source.new.shelf) in
-    let bytes : List ℕ = c.in-Ok.source.items in
-    let script : ScriptState = c.in-Ok-load_script.script in
-    let journal : Bool = c.args.journal in
-    let name : List ℕ = c.args.script.now in
-    let text = c.in-Ok-load_script.ensures.ok in
-    let ran : Ends u2 [] (λ files. AfterSource bytes journal script) c.run_source.result w =
-    subst (λ (b : List ℕ). Ends u2 [] (λ files. AfterSource b journal script) c.run_source.result w) c.as_slice.ensures.value c.run_source.ensures.ends in
-    after_load v u w Source c.args.source.now bytes (Load name ∷ []) (λ files b. AfterLoad Script name (λ lines. AfterScript lines (AfterSource b journal)) files) c.run_source.result c.in-Ok.ensures.ok
-    (after_script u u2 w name text.0 script (AfterSource bytes journal) c.run_source.result text.1 text.2 ran)
+    let is : option_map (λ t. t.now) c.args.settings ≡ Some c.in-Some.name.now = ap (λ s. option_map (λ t. t.now) s) c.in-Some.is in
+    subst (λ (o : Option (List ℕ)). Ends v (settings_load o ++ Load source ∷ Load script ∷ []) (IsRunAnswer source script o journal) c.in-Err.status w) (sym is)
+    (no_settings_end v w c.in-Some.name.now (Load source ∷ Load script ∷ []) (λ files. IsRunUnder source script journal files) c.in-Err.status c.in-Err.ensures.refused)

@@ -1,12 +1,12 @@
-use Rattle.std.proofs.Common.{◌≡◌, ◌≢◌, ℕ, Bool, List, [], refl, sym, ◌∙◌, lit≤, arith}
-use Rattle.std.proofs.lemmas.Bool.Decides.{eqb_tells}
+use Rattle.std.proofs.Common.{◌≢◌, ℕ, Bool, List, [], refl, sym, ◌∙◌, arith}
+use Rattle.mc_words.specs.Settings.{Numbers, numbers_of}
 use Rattle.mc_image.specs.Image.{ImageState}
 use Rattle.mc_script.specs.Script.{ScriptState}
 use Rattle.mc_compile.specs.Tracks.{CompiledFrom}
 use Rattle.mc_straight.specs.Form.{program_of, size_of}
 use Rattle.mc_driver.specs.declared.ending.Origin.TheVariants.{Compiled as CompiledOrigin}
 use Rattle.mc_driver.specs.Outside.{View, view}
-use Rattle.mc_driver.specs.Run.{IsReport, IsRunOf}
+use Rattle.mc_driver.specs.Run.{IsReport}
 use Rattle.mc_driver.specs.Answer.{AfterSource, no_source, runs}
 use Rattle.mc_driver.proofs.Endings.{says_ends, ends_as}
 use Rattle.mc_driver.proofs.Headline.{run_of_program, own_status}
@@ -21,24 +21,25 @@ returns-in-Ok-clause-ends g c =
     let script : ScriptState = c.args.script.now in
     let journal : Bool = c.args.journal in
     let source : List ℕ = c.args.source.now in
-    let made : CompiledFrom source 200 16 image = c.in-Ok.ensures.ok in
-    ends_as v w [] [] (λ files. IsReport CompiledOrigin journal image script) (λ files. AfterSource source journal script) c.play.result c.play.ensures.ends
+    let settings : Numbers = numbers_of c.args.settings in
+    let made : CompiledFrom source settings.workspace_words settings.processes image = c.in-Ok.ensures.ok in
+    ends_as v w [] [] (λ files. IsReport CompiledOrigin journal image script) (λ files. AfterSource source settings journal script) c.play.result c.play.ensures.ends
     (λ files told status text report. runs (record {
       image = image;
       compiled = made;
       report = report;
-      meaning = run_of_program (program_of made.form) (record { workspace = 200; processes = 16; size = size_of made.accepted.tokens }) image script made.compiled report.stops (lit≤ tt);
+      meaning = run_of_program (program_of made.form) (record { workspace = settings.workspace_words; processes = settings.processes; size = size_of made.accepted.tokens }) image script made.compiled report.stops (omega (arith, c.args.settings.workspace_least));
     }))
 
 pub returns-in-Ok-clause-own : goal.returns-in-Ok-clause-own
 returns-in-Ok-clause-own g c e =
-    let made : CompiledFrom c.args.source.now 200 16 c.in-Ok.image = c.in-Ok.ensures.ok in
+    let made : CompiledFrom c.args.source.now c.args.settings.workspace_words c.args.settings.processes c.in-Ok.image = c.in-Ok.ensures.ok in
     let no11 : c.play.result ≢ 11 = λ f. omega (arith, e, f) in
     let no12 : c.play.result ≢ 12 = λ f. omega (arith, e, f) in
-    let meaning = run_of_program (program_of made.form) (record { workspace = 200; processes = 16; size = size_of made.accepted.tokens }) c.in-Ok.image c.args.script.now made.compiled (c.play.ensures.stops no12) (lit≤ tt) in
+    let meaning = run_of_program (program_of made.form) (record { workspace = c.args.settings.workspace_words; processes = c.args.settings.processes; size = size_of made.accepted.tokens }) c.in-Ok.image c.args.script.now made.compiled (c.play.ensures.stops no12) (omega (arith, c.args.settings.workspace_least)) in
     own_status _ meaning.ends_as.ending_is (sym (c.play.ensures.status no11 no12) ∙ e)
 
 pub returns-in-Err-NotYet-clause-ends : goal.returns-in-Err-NotYet-clause-ends
 returns-in-Err-NotYet-clause-ends g c =
-    says_ends _ _ [] (λ files. AfterSource c.args.source.now c.args.journal c.args.script.now) _ 15 _ (λ e. omega arith) c.say.ensures.says
+    says_ends _ _ [] (λ files. AfterSource c.args.source.now (numbers_of c.args.settings) c.args.journal c.args.script.now) _ 15 _ (λ e. omega arith) c.say.ensures.says
     (λ files told. no_source (c.in-Err-NotYet.ensures.not_yet (cc)) (refl, refl))

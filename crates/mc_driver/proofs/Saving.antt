@@ -1,0 +1,185 @@
+-- Commands that may save a file.
+use Rattle.std.proofs.Common.{◌≡◌, ◌≢◌, ◌≤◌, ◌<◌, ◌-◌, ◌^◌, ◌⊎◌, ℕ, List, [], ◌∷◌, ◌++◌, length, Option, Some, None, Ok, refl, sym, ap, ◌∙◌, subst, arith, inl, inr, append_assoc}
+use Rattle.std.specs.Prelude.{codes, decimal}
+use Rattle.std.proofs.lemmas.Bool.Decides.{eqb_tells}
+use Rattle.mc_shelf.specs.declared.ask.Ask.{Ask}
+use Rattle.mc_shelf.specs.declared.ask.Ask.TheVariants.{Load, Save}
+use Rattle.mc_shelf.specs.Outside.{Files, content, Told, Rose, placed, appended, IsPart, asks}
+use Rattle.mc_words.specs.Settings.{Numbers, AnswersSettings}
+use Rattle.mc_driver.specs.declared.files.FileKind.{FileKind}
+use Rattle.mc_driver.specs.declared.files.FileKind.TheVariants.{Settings}
+use Rattle.mc_driver.specs.Outside.{View, Loaded, Says, IsSame, KeepsOthers, IsCut, IsCutOff, Ends, EndsSaving, IsSavedTo}
+use Rattle.mc_driver.specs.Answer.{most, AfterLoad, loaded, AfterReadingSettings, some_settings, with_file, IsSaved, SavesNothing, SavesWhenDone}
+use Rattle.mc_driver.proofs.Endings.{part_from, pieces_from, memory_ends}
+use Rattle.mc_driver.proofs.Streams.{appended-none, pieces_none}
+
+keeps_all : (target : Option (List ℕ)) (before after : Option Files) → after ≡ before → KeepsOthers target before after
+keeps_all None before after e = e
+keeps_all (Some name) before after e = inl e
+
+keeps_from : (target : Option (List ℕ)) (before between after : Option Files) → between ≡ before → KeepsOthers target between after → KeepsOthers target before after
+keeps_from target before between after e k = subst (λ (b : Option Files). KeepsOthers target b after) e k
+
+-- a command that saves nothing
+pub saves_none : (v w : View) (wanted : List Ask) (target : Option (List ℕ)) (Some_answers : Files → ℕ → List ℕ → Type 0) (Answers : Files → Files → ℕ → List ℕ → Type 0) (result : ℕ) → Ends v wanted Some_answers result w → ((files : Files) → v.files ≡ Some files → (status : ℕ) (text : List ℕ) → Some_answers files status text → Answers files files status text) → EndsSaving v wanted target Answers result w
+saves_none v w wanted target Some_answers Answers result e map =
+    record {
+      answer = λ no11 no12 calm files told. let a = e.answer no11 no12 calm files told in (files, a.0, map files told result a.0 a.1, e.files ∙ told, a.2);
+      cut = λ which room files told. go files told (e.cut which room files told);
+      failed = e.failed;
+      grew = e.grew;
+      long = e.long;
+      asked = e.asked;
+      files = keeps_all target v.files w.files e.files;
+    }
+  where
+    go : (files : Files) → v.files ≡ Some files → (w.printed ≡ v.printed) ⊎ IsCut v files Some_answers result w → ((w.printed ≡ v.printed) × (w.files ≡ v.files)) ⊎ IsCutOff v files target Answers result w
+    go files told (inl same) = inl (same, e.files)
+    go files told (inr c) =
+        inr (record { after = files; status = c.status; text = c.text; answers = map files told c.status c.text c.answers; part = c.part; files = inl (e.files ∙ told); tight = c.tight; pieces = c.pieces })
+
+-- its answers are among those of all commands
+pub plain_ends : (v w : View) (wanted : List Ask) (Answers : Files → ℕ → List ℕ → Type 0) (result : ℕ) → Ends v wanted Answers result w → EndsSaving v wanted None (SavesNothing Answers) result w
+plain_ends v w wanted Answers result e =
+    saves_none v w wanted None Answers (SavesNothing Answers) result e (λ files told status text a. record { kept = refl; answers = a })
+
+-- an answer is one of these too
+pub saving_as : (v w : View) (wanted : List Ask) (target : Option (List ℕ)) (Some_answers Answers : Files → Files → ℕ → List ℕ → Type 0) (result : ℕ) → EndsSaving v wanted target Some_answers result w → ((files : Files) → v.files ≡ Some files → (after : Files) (status : ℕ) (text : List ℕ) → Some_answers files after status text → Answers files after status text) → EndsSaving v wanted target Answers result w
+saving_as v w wanted target Some_answers Answers result e map =
+    record {
+      answer = λ no11 no12 calm files told. let a = e.answer no11 no12 calm files told in (a.0, a.1, map files told a.0 result a.1 a.2, a.3, a.4);
+      cut = λ which room files told. go files told (e.cut which room files told);
+      failed = e.failed;
+      grew = e.grew;
+      long = e.long;
+      asked = e.asked;
+      files = e.files;
+    }
+  where
+    go : (files : Files) → v.files ≡ Some files → ((w.printed ≡ v.printed) × (w.files ≡ v.files)) ⊎ IsCutOff v files target Some_answers result w → ((w.printed ≡ v.printed) × (w.files ≡ v.files)) ⊎ IsCutOff v files target Answers result w
+    go files told (inl same) = inl same
+    go files told (inr c) = inr (record { after = c.after; status = c.status; text = c.text; answers = map files told c.after c.status c.text c.answers; part = c.part; files = c.files; tight = c.tight; pieces = c.pieces })
+
+-- a file is loaded, and then the rest of the command follows
+pub loaded_saving : (v u w : View) (name : List ℕ) (most : ℕ) (bytes : List ℕ) (wanted : List Ask) (target : Option (List ℕ)) (Answers Left : Files → Files → ℕ → List ℕ → Type 0) (result : ℕ) → Loaded v name most bytes u → EndsSaving u wanted target Left result w → ((files : Files) → v.files ≡ Some files → bytes ≡ content files name → (after : Files) (status : ℕ) (text : List ℕ) → Left files after status text → Answers files after status text) → EndsSaving v (Load name ∷ wanted) target Answers result w
+loaded_saving v u w name most bytes wanted target Answers Left result l e map =
+    record {
+      answer = λ no11 no12 calm files told.
+          let calm_there : result ≡ 14 → Rose u.faults w.faults → ⊥ = λ f r. calm f (subst (λ (n : ℕ). Rose n w.faults) l.faults r) in
+          let a = e.answer no11 no12 calm_there files (l.files ∙ told) in
+          (a.0, a.1, map files told (l.told files told) a.0 result a.1 a.2, a.3, a.4 ∙ ap (λ (o : Option (List ℕ)). appended o a.1) l.printed);
+      cut = λ which room files told. go files told (e.cut which (subst (λ (n : ℕ). n < 2 ^ 64 - 1) (sym l.faults) room) files (l.files ∙ told));
+      failed = λ f. subst (λ (n : ℕ). Rose n w.faults) l.faults (e.failed f);
+      grew = λ h. e.grew (subst (λ (n : ℕ). n < w.faults) (sym l.faults) h);
+      long = λ f. subst (λ (n : ℕ). Rose n w.longs) l.longs (e.long f);
+      asked = λ asked told.
+          let there = e.asked (asked ++ Load name ∷ []) (l.asked ∙ ap (λ (o : Option (List Ask)). asks o (Load name)) told) in
+          (Load name ∷ there.0, there.1, ap (λ (k : List Ask). Load name ∷ k) there.2, there.3 ∙ ap (λ (k : List Ask). let o : Option (List Ask) = Some k in o) (append_assoc asked (Load name ∷ []) there.0));
+      files = keeps_from target v.files u.files w.files l.files e.files;
+    }
+  where
+    go : (files : Files) → v.files ≡ Some files → ((w.printed ≡ u.printed) × (w.files ≡ u.files)) ⊎ IsCutOff u files target Left result w → ((w.printed ≡ v.printed) × (w.files ≡ v.files)) ⊎ IsCutOff v files target Answers result w
+    go files told (inl same) = inl (same.0 ∙ l.printed, same.1 ∙ l.files)
+    go files told (inr c) =
+        inr (record {
+          after = c.after;
+          status = c.status;
+          text = c.text;
+          answers = map files told (l.told files told) c.after c.status c.text c.answers;
+          part = part_from v.printed u.printed w.printed c.text l.printed c.part;
+          files = there c.files;
+          tight = λ f h. c.tight f (l.room (length c.text) h);
+          pieces = λ f. pieces_from v.printed u.printed w.printed c.text l.printed (c.pieces f);
+        })
+      where
+        there : (w.files ≡ Some c.after) ⊎ ((c.status ≡ 0) × (w.printed ≡ u.printed) × KeepsOthers target u.files w.files) → (w.files ≡ Some c.after) ⊎ ((c.status ≡ 0) × (w.printed ≡ v.printed) × KeepsOthers target v.files w.files)
+        there (inl is) = inl is
+        there (inr (done, same, others)) = inr (done, same ∙ l.printed, keeps_from target v.files u.files w.files l.files others)
+
+-- a file is loaded, and the answer goes on with its bytes
+pub after_load_saving : (v u w : View) (kind : FileKind) (name bytes : List ℕ) (wanted : List Ask) (target : Option (List ℕ)) (Next : List ℕ → Files → Files → ℕ → List ℕ → Type 0) (result : ℕ) → Loaded v name (most kind) bytes u → EndsSaving u wanted target (SavesWhenDone (Next bytes)) result w → EndsSaving v (Load name ∷ wanted) target (SavesWhenDone (λ files after. AfterLoad kind name (λ b. Next b files after) files)) result w
+after_load_saving v u w kind name bytes wanted target Next result l e =
+    loaded_saving v u w name (most kind) bytes wanted target (SavesWhenDone (λ files after. AfterLoad kind name (λ b. Next b files after) files)) (SavesWhenDone (Next bytes)) result l e
+    (λ files told is after status text next. record {
+      kept = next.kept;
+      answers = loaded (subst (λ (b : List ℕ). length b ≤ most kind) is l.short) (subst (λ (b : List ℕ). Next b files after status text) is next.answers);
+    })
+
+-- settings are loaded and read, and the answer goes on with them
+pub after_settings_saving : (v u w : View) (name bytes : List ℕ) (numbers : Numbers) (wanted : List Ask) (target : Option (List ℕ)) (Next : Numbers → Files → Files → ℕ → List ℕ → Type 0) (result : ℕ) → Loaded v name 4096 bytes u → AnswersSettings bytes (Ok numbers) → EndsSaving u wanted target (SavesWhenDone (Next numbers)) result w → EndsSaving v (Load name ∷ wanted) target (SavesWhenDone (λ files after. AfterLoad Settings name (λ b. AfterReadingSettings b (λ n. Next n files after)) files)) result w
+after_settings_saving v u w name bytes numbers wanted target Next result l is e =
+    loaded_saving v u w name 4096 bytes wanted target (SavesWhenDone (λ files after. AfterLoad Settings name (λ b. AfterReadingSettings b (λ n. Next n files after)) files)) (SavesWhenDone (Next numbers)) result l e
+    (λ files told same after status text next. record {
+      kept = next.kept;
+      answers = loaded (subst (λ (b : List ℕ). length b ≤ 4096) same l.short) (some_settings numbers (subst (λ (b : List ℕ). AnswersSettings b (Ok numbers)) same is) next.answers);
+    })
+
+-- there is no memory
+pub memory_saving : (v w : View) (wanted : List Ask) (target : Option (List ℕ)) (Answers : Files → Files → ℕ → List ℕ → Type 0) → IsSame v w → EndsSaving v wanted target Answers 12 w
+memory_saving v w wanted target Answers s =
+    saves_none v w wanted target (λ files status text. ⊥) Answers 12 (memory_ends v w wanted (λ files status text. ⊥) s) (λ files told status text no. absurd no)
+
+-- Saves
+
+abbrev pub said_of : List ℕ → List ℕ
+said_of bytes = codes "image " ++ decimal (length bytes) ++ codes "\n"
+
+part_none : (printed now : Option (List ℕ)) (bytes : List ℕ) → now ≡ printed → IsPart printed bytes now
+part_none printed now bytes e = record { front = []; rest = bytes; parts = refl; appends = e ∙ appended-none printed }
+
+-- one is asked, which is all
+asked_one : (v w : View) (ask : Ask) → w.asked ≡ asks v.asked ask → Told v.asked (λ asked. (some : List Ask) × (rest : List Ask) × (ask ∷ [] ≡ some ++ rest) × (w.asked ≡ Some (asked ++ some)))
+asked_one v w ask e asked told = (ask ∷ [], [], refl, e ∙ ap (λ (o : Option (List Ask)). asks o ask) told)
+
+-- the bytes were saved, and then their number was said, or could not be
+pub saved_ends : (v u w : View) (name bytes : List ℕ) (result : ℕ) → IsSavedTo v name bytes u → Says u (said_of bytes) 0 result w → EndsSaving v (Save name ∷ []) (Some name) (IsSaved name bytes) result w
+saved_ends v u w name bytes result p s =
+    record {
+      answer = λ no11 no12 calm files told.
+          let said = s.said no11 no12 in
+          (with_file files name bytes, said_of bytes, record { saved = refl; said = (said.0, refl) }, now files told, said.1 ∙ ap (λ (o : Option (List ℕ)). appended o (said_of bytes)) p.printed);
+      cut = λ which room files told. inr (record {
+        after = with_file files name bytes;
+        status = 0;
+        text = said_of bytes;
+        answers = record { saved = refl; said = (refl, refl) };
+        part = part which;
+        files = inl (now files told);
+        tight = λ e h. s.tight e (p.room (length (said_of bytes)) h);
+        pieces = λ e. pieces_none v.printed w.printed (said_of bytes) (s.memory e ∙ p.printed);
+      });
+      failed = λ e. subst (λ (n : ℕ). Rose n w.faults) p.faults (s.failed e).0;
+      grew = λ h. elim (eqb_tells result 11) [ inl e ↦ e.1 | inr e ↦ absurd (omega (arith, h, s.same e.1, p.faults)) ];
+      long = λ e. let no11 : result ≢ 11 = λ f. omega arith in let no12 : result ≢ 12 = λ f. omega arith in absurd (omega (arith, e, (s.said no11 no12).0));
+      asked = asked_one v w (Save name) (s.asked ∙ p.asked);
+      files = inr (Some bytes, s.files ∙ p.files);
+    }
+  where
+    now : (files : Files) → v.files ≡ Some files → let o : Option Files = Some (with_file files name bytes) in w.files ≡ o
+    now files told = s.files ∙ p.files ∙ ap (λ (o : Option Files). placed o name (Some bytes)) told
+
+    part : (result ≡ 11) ⊎ (result ≡ 12) → IsPart v.printed (said_of bytes) w.printed
+    part (inl e) = part_from v.printed u.printed w.printed (said_of bytes) p.printed (s.failed e).1
+    part (inr e) = part_none v.printed w.printed (said_of bytes) (s.memory e ∙ p.printed)
+
+-- the save failed
+pub unsaved_ends : (v w : View) (name bytes : List ℕ) (held : Option (List ℕ)) → w.files ≡ placed v.files name held → w.printed ≡ v.printed → w.asked ≡ asks v.asked (Save name) → Rose v.faults w.faults → EndsSaving v (Save name ∷ []) (Some name) (IsSaved name bytes) 11 w
+unsaved_ends v w name bytes held put printed asked rose =
+    record {
+      answer = λ no11 no12 calm files told. absurd (no11 refl);
+      cut = λ which room files told. inr (record {
+        after = with_file files name bytes;
+        status = 0;
+        text = said_of bytes;
+        answers = record { saved = refl; said = (refl, refl) };
+        part = part_none v.printed w.printed (said_of bytes) printed;
+        files = inr (refl, printed, inr (held, put));
+        tight = λ e. absurd (omega arith);
+        pieces = λ e. absurd (omega arith);
+      });
+      failed = λ e. rose;
+      grew = λ h. refl;
+      long = λ e. absurd (omega arith);
+      asked = asked_one v w (Save name) asked;
+      files = inr (held, put);
+    }

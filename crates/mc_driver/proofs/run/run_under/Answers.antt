@@ -1,0 +1,44 @@
+use Rattle.std.proofs.Common.{ℕ, Bool, List, [], ◌∷◌, subst}
+use Rattle.mc_shelf.specs.declared.ask.Ask.TheVariants.{Load}
+use Rattle.mc_words.specs.Settings.{Numbers, numbers_of}
+use Rattle.mc_script.specs.Script.{ScriptState}
+use Rattle.mc_driver.specs.declared.files.FileKind.TheVariants.{Source, Script}
+use Rattle.mc_driver.specs.Outside.{View, view, Ends}
+use Rattle.mc_driver.specs.Answer.{AfterLoad, AfterScript, AfterSource}
+use Rattle.mc_driver.proofs.Endings.{not_loaded, after_load, no_script_ends, after_script}
+use Rattle.mc_driver.proofs.run.run_under.Goals as goal
+
+pub returns-in-Err-clause-ends : goal.returns-in-Err-clause-ends
+returns-in-Err-clause-ends g c =
+    not_loaded _ _ Source c.args.source.now (Load c.args.script.now ∷ []) (λ files bytes. AfterLoad Script c.args.script.now (λ lines. AfterScript lines (AfterSource bytes (numbers_of c.args.settings) c.args.journal)) files) _ c.in-Err.ensures.refused
+
+pub returns-in-Err-load_script-clause-ends : goal.returns-in-Err-load_script-clause-ends
+returns-in-Err-load_script-clause-ends g c =
+    let S = g.S.Shelf in
+    let v : View = view (S.files c.args.shelf.now) (S.printed c.args.shelf.now) (S.asked c.args.shelf.now) (S.spare c.args.shelf.now) (S.faults c.args.shelf.now) (S.longs c.args.shelf.now) in
+    let u : View = view (S.files c.load.new.shelf) (S.printed c.load.new.shelf) (S.asked c.load.new.shelf) (S.spare c.load.new.shelf) (S.faults c.load.new.shelf) (S.longs c.load.new.shelf) in
+    let w : View = view (S.files c.load_script.new.shelf) (S.printed c.load_script.new.shelf) (S.asked c.load_script.new.shelf) (S.spare c.load_script.new.shelf) (S.faults c.load_script.new.shelf) (S.longs c.load_script.new.shelf) in
+    let bytes : List ℕ = c.in-Ok.source.items in
+    let journal : Bool = c.args.journal in
+    let settings : Numbers = numbers_of c.args.settings in
+    let name : List ℕ = c.args.script.now in
+    after_load v u w Source c.args.source.now bytes (Load name ∷ []) (λ files b. AfterLoad Script name (λ lines. AfterScript lines (AfterSource b settings journal)) files) _ c.in-Ok.ensures.ok
+    (no_script_ends u w name (AfterSource bytes settings journal) _ c.in-Err-load_script.ensures.refused)
+
+pub returns-clause-ends : goal.returns-clause-ends
+returns-clause-ends g c =
+    let S = g.S.Shelf in
+    let v : View = view (S.files c.args.shelf.now) (S.printed c.args.shelf.now) (S.asked c.args.shelf.now) (S.spare c.args.shelf.now) (S.faults c.args.shelf.now) (S.longs c.args.shelf.now) in
+    let u : View = view (S.files c.load.new.shelf) (S.printed c.load.new.shelf) (S.asked c.load.new.shelf) (S.spare c.load.new.shelf) (S.faults c.load.new.shelf) (S.longs c.load.new.shelf) in
+    let u2 : View = view (S.files c.load_script.new.shelf) (S.printed c.load_script.new.shelf) (S.asked c.load_script.new.shelf) (S.spare c.load_script.new.shelf) (S.faults c.load_script.new.shelf) (S.longs c.load_script.new.shelf) in
+    let w : View = view (S.files c.run_source.new.shelf) (S.printed c.run_source.new.shelf) (S.asked c.run_source.new.shelf) (S.spare c.run_source.new.shelf) (S.faults c.run_source.new.shelf) (S.longs c.run_source.new.shelf) in
+    let bytes : List ℕ = c.in-Ok.source.items in
+    let script : ScriptState = c.in-Ok-load_script.script in
+    let journal : Bool = c.args.journal in
+    let settings : Numbers = numbers_of c.args.settings in
+    let name : List ℕ = c.args.script.now in
+    let text = c.in-Ok-load_script.ensures.ok in
+    let ran : Ends u2 [] (λ files. AfterSource bytes settings journal script) c.run_source.result w =
+    subst (λ (b : List ℕ). Ends u2 [] (λ files. AfterSource b settings journal script) c.run_source.result w) c.as_slice.ensures.value c.run_source.ensures.ends in
+    after_load v u w Source c.args.source.now bytes (Load name ∷ []) (λ files b. AfterLoad Script name (λ lines. AfterScript lines (AfterSource b settings journal)) files) c.run_source.result c.in-Ok.ensures.ok
+    (after_script u u2 w name text.0 script (AfterSource bytes settings journal) c.run_source.result text.1 text.2 ran)
