@@ -1,10 +1,9 @@
 -- Loads and prints, one behind the other, are a whole command.
-use Rattle.std.proofs.Common.{◌≡◌, ◌≢◌, ◌≤◌, ◌<◌, ◌-◌, ◌^◌, ◌⊎◌, ℕ, List, [], ◌∷◌, ◌++◌, length, Option, Some, Ok, refl, sym, ap, ◌∙◌, subst, arith, inl, inr, append_assoc}
-use Rattle.std.proofs.lemmas.List.{append-nil}
+use Rattle.std.proofs.Common.{◌≡◌, ◌≢◌, ◌≤◌, ◌<◌, ◌-◌, ◌^◌, ◌⊎◌, ℕ, List, [], ◌∷◌, ◌++◌, length, Option, Some, Ok, refl, sym, ap, ◌∙◌, subst, arith, inl, inr}
 use Rattle.std.proofs.lemmas.Bool.Decides.{eqb_tells}
 use Rattle.mc_shelf.specs.declared.ask.Ask.{Ask}
 use Rattle.mc_shelf.specs.declared.ask.Ask.TheVariants.{Load}
-use Rattle.mc_shelf.specs.Outside.{Files, content, Told, Rose, appended, IsPart, asks}
+use Rattle.mc_shelf.specs.Outside.{Files, content, Rose, appended, IsPart}
 use Rattle.mc_shelf.specs.declared.shelf.PutFault.TheVariants.{Failed, Memory}
 use Rattle.mc_words.specs.Settings.{Numbers, AnswersSettings}
 use Rattle.mc_image.specs.Image.{ImageState}
@@ -13,8 +12,9 @@ use Rattle.mc_script.specs.Script.{ScriptState}
 use Rattle.mc_script.specs.Texts.{IsText}
 use Rattle.mc_driver.specs.declared.files.FileKind.{FileKind}
 use Rattle.mc_driver.specs.declared.files.FileKind.TheVariants.{Script, Image, Settings}
-use Rattle.mc_driver.specs.Outside.{View, IsInPieces, Prints, Breaks, Loaded, Says, IsSame, Unloaded, fails, no_memory, is_long, IsCut, Ends}
+use Rattle.mc_driver.specs.Outside.{View, BeginsWith, AskedFor, IsInPieces, Prints, Breaks, Loaded, Says, IsSame, Unloaded, fails, no_memory, is_long, IsCut, Ends}
 use Rattle.mc_driver.specs.Answer.{most, too_long_line, AfterLoad, long_file, loaded, AfterImage, no_image, an_image, AfterScript, no_script, a_script, AfterReadingSettings, no_settings, some_settings}
+use Rattle.mc_driver.proofs.Asking.{asks_none, one_more, begins_none, asked_nothing, asked_first, asked_then, asked_within, asked_more, load_first, load_back, image_back, settings_back}
 
 not_rose : (before now : ℕ) → now ≡ before → before < 2 ^ 64 - 1 → Rose before now → ⊥
 not_rose before now e h r = absurd (omega (arith, e, h, r))
@@ -26,39 +26,27 @@ part_from a b now text e p = subst (λ (x : Option (List ℕ)). IsPart x text no
 pub pieces_from : (a b now : Option (List ℕ)) (text : List ℕ) → b ≡ a → IsInPieces b text now → IsInPieces a text now
 pieces_from a b now text e p = subst (λ (x : Option (List ℕ)). IsInPieces x text now) e p
 
--- nothing is asked
-asked_none : (v w : View) → w.asked ≡ v.asked → Told v.asked (λ asked. (some : List Ask) × (rest : List Ask) × ([] ≡ some ++ rest) × (w.asked ≡ Some (asked ++ some)))
-asked_none v w e asked told = ([], [], refl, e ∙ told ∙ ap (λ (l : List Ask). let o : Option (List Ask) = Some l in o) (sym (append-nil asked)))
-
--- one is asked, of several
-asked_first : (v w : View) (ask : Ask) (more : List Ask) → w.asked ≡ asks v.asked ask → Told v.asked (λ asked. (some : List Ask) × (rest : List Ask) × (ask ∷ more ≡ some ++ rest) × (w.asked ≡ Some (asked ++ some)))
-asked_first v w ask more e asked told = (ask ∷ [], more, refl, e ∙ ap (λ (o : Option (List Ask)). asks o ask) told)
-
--- none is asked, of several
-asked_nothing : (v w : View) (wanted : List Ask) → w.asked ≡ v.asked → Told v.asked (λ asked. (some : List Ask) × (rest : List Ask) × (wanted ≡ some ++ rest) × (w.asked ≡ Some (asked ++ some)))
-asked_nothing v w wanted e asked told = ([], wanted, refl, e ∙ told ∙ ap (λ (l : List Ask). let o : Option (List Ask) = Some l in o) (sym (append-nil asked)))
-
 -- a line is said
-pub says_ends : (v w : View) (wanted : List Ask) (Answers : Files → ℕ → List ℕ → Type 0) (line : List ℕ) (status result : ℕ) → status ≢ 14 → Says v line status result w → ((files : Files) → v.files ≡ Some files → Answers files status line) → Ends v wanted Answers result w
+pub says_ends : (v w : View) (wanted : List Ask) (Answers : Files → List Ask → ℕ → List ℕ → Type 0) (line : List ℕ) (status result : ℕ) → status ≢ 14 → Says v line status result w → ((files : Files) → v.files ≡ Some files → Answers files [] status line) → Ends v wanted Answers result w
 says_ends v w wanted Answers line status result short s is =
     record {
       answer = λ no11 no12 calm files told.
           let said = s.said no11 no12 in
-          (line, subst (λ (n : ℕ). Answers files n line) (sym said.0) (is files told), said.1);
+          ([], line, subst (λ (n : ℕ). Answers files [] n line) (sym said.0) (is files told), s.asked ∙ asks_none v.asked, said.1);
       cut = λ which room files told. cut which files told;
       failed = λ e. (s.failed e).0;
       grew = λ h. elim (eqb_tells result 11) [ inl e ↦ e.1 | inr e ↦ absurd (omega (arith, h, s.same e.1)) ];
       long = λ e. let no11 : result ≢ 11 = λ f. omega arith in let no12 : result ≢ 12 = λ f. omega arith in absurd (short (sym (s.said no11 no12).0 ∙ e));
-      asked = asked_nothing v w wanted s.asked;
+      asked = asked_nothing v w wanted (AskedFor Answers) s.asked;
       files = s.files;
     }
   where
     cut : (result ≡ 11) ⊎ (result ≡ 12) → (files : Files) → v.files ≡ Some files → (w.printed ≡ v.printed) ⊎ IsCut v files Answers result w
-    cut (inl e) files told = inr (record { status = status; text = line; answers = is files told; part = (s.failed e).1; tight = λ f. absurd (omega arith); pieces = λ f. absurd (omega arith) })
+    cut (inl e) files told = inr (record { some = []; status = status; text = line; answers = is files told; asked = s.asked ∙ asks_none v.asked; part = (s.failed e).1; tight = λ f. absurd (omega arith); pieces = λ f. absurd (omega arith) })
     cut (inr e) files told = inl (s.memory e)
 
 -- there is no memory
-pub memory_ends : (v : View) (w : View) (wanted : List Ask) (Answers : Files → ℕ → List ℕ → Type 0) → IsSame v w → Ends v wanted Answers 12 w
+pub memory_ends : (v : View) (w : View) (wanted : List Ask) (Answers : Files → List Ask → ℕ → List ℕ → Type 0) → IsSame v w → Ends v wanted Answers 12 w
 memory_ends v w wanted Answers s =
     record {
       answer = λ no11 no12 calm files told. absurd (no12 refl);
@@ -66,25 +54,24 @@ memory_ends v w wanted Answers s =
       failed = λ e. absurd (omega arith);
       grew = λ h. absurd (omega (arith, h, s.faults));
       long = λ e. absurd (omega arith);
-      asked = asked_nothing v w wanted s.asked;
+      asked = asked_nothing v w wanted (AskedFor Answers) s.asked;
       files = s.files;
     }
 
 -- a file is loaded, and then the rest of the command follows
-pub loaded_ends : (v u w : View) (name : List ℕ) (most : ℕ) (bytes : List ℕ) (wanted : List Ask) (Answers Left : Files → ℕ → List ℕ → Type 0) (result : ℕ) → Loaded v name most bytes u → Ends u wanted Left result w → ((files : Files) → v.files ≡ Some files → bytes ≡ content files name → (status : ℕ) (text : List ℕ) → Left files status text → Answers files status text) → Ends v (Load name ∷ wanted) Answers result w
-loaded_ends v u w name most bytes wanted Answers Left result l e map =
+pub loaded_ends : (v u w : View) (name : List ℕ) (most : ℕ) (bytes : List ℕ) (wanted : List Ask) (Answers Left : Files → List Ask → ℕ → List ℕ → Type 0) (result : ℕ) → Loaded v name most bytes u → Ends u wanted Left result w → ((files : Files) → v.files ≡ Some files → bytes ≡ content files name → (some : List Ask) (status : ℕ) (text : List ℕ) → Left files some status text → Answers files (Load name ∷ some) status text) → ((files : Files) → v.files ≡ Some files → bytes ≡ content files name → (all : List Ask) (status : ℕ) (text : List ℕ) → Answers files all status text → (rest : List Ask) × (all ≡ Load name ∷ rest) × Left files rest status text) → Ends v (Load name ∷ wanted) Answers result w
+loaded_ends v u w name most bytes wanted Answers Left result l e map back =
     record {
       answer = λ no11 no12 calm files told.
           let calm_there : result ≡ 14 → Rose u.faults w.faults → ⊥ = λ f r. calm f (subst (λ (n : ℕ). Rose n w.faults) l.faults r) in
           let a = e.answer no11 no12 calm_there files (l.files ∙ told) in
-          (a.0, map files told (l.told files told) result a.0 a.1, a.2 ∙ ap (λ (o : Option (List ℕ)). appended o a.0) l.printed);
+          (Load name ∷ a.0, a.1, map files told (l.told files told) a.0 result a.1 a.2, one_more v.asked u.asked w.asked (Load name) a.0 l.asked a.3, a.4 ∙ ap (λ (o : Option (List ℕ)). appended o a.1) l.printed);
       cut = λ which room files told. cut which room files told;
       failed = λ f. subst (λ (n : ℕ). Rose n w.faults) l.faults (e.failed f);
       grew = λ h. e.grew (subst (λ (n : ℕ). n < w.faults) (sym l.faults) h);
       long = λ f. subst (λ (n : ℕ). Rose n w.longs) l.longs (e.long f);
-      asked = λ asked told.
-          let there = e.asked (asked ++ Load name ∷ []) (l.asked ∙ ap (λ (o : Option (List Ask)). asks o (Load name)) told) in
-          (Load name ∷ there.0, there.1, ap (λ (k : List Ask). Load name ∷ k) there.2, there.3 ∙ ap (λ (k : List Ask). let o : Option (List Ask) = Some k in o) (append_assoc asked (Load name ∷ []) there.0));
+      asked = asked_then v u w (Load name) wanted (AskedFor Answers) (AskedFor Left) l.asked l.files e.asked
+          (λ files told all is. let b = back files told (l.told files told) all is.0 is.1 is.2 in (b.0, b.1, (is.0, is.1, b.2)));
       files = e.files ∙ l.files;
     }
   where
@@ -95,47 +82,49 @@ loaded_ends v u w name most bytes wanted Answers Left result l e map =
         go (inl same) = inl (same ∙ l.printed)
         go (inr c) =
             inr (record {
+              some = Load name ∷ c.some;
               status = c.status;
               text = c.text;
-              answers = map files told (l.told files told) c.status c.text c.answers;
+              answers = map files told (l.told files told) c.some c.status c.text c.answers;
+              asked = one_more v.asked u.asked w.asked (Load name) c.some l.asked c.asked;
               part = part_from v.printed u.printed w.printed c.text l.printed c.part;
               tight = λ f h. c.tight f (l.room (length c.text) h);
               pieces = λ f. pieces_from v.printed u.printed w.printed c.text l.printed (c.pieces f);
             })
 
 -- a file is not loaded
-pub unloaded_ends : (v w : View) (name : List ℕ) (most : ℕ) (line : List ℕ) (wanted : List Ask) (Answers : Files → ℕ → List ℕ → Type 0) (result : ℕ) → Unloaded v name most line result w → ((files : Files) → v.files ≡ Some files → most < length (content files name) → Answers files 14 line) → Ends v (Load name ∷ wanted) Answers result w
-unloaded_ends v w name most line wanted Answers result (fails is l) long =
+pub unloaded_ends : (v w : View) (name : List ℕ) (most : ℕ) (line : List ℕ) (wanted : List Ask) (Answers : Files → List Ask → ℕ → List ℕ → Type 0) (result : ℕ) → Unloaded v name most line result w → ((files : Files) → v.files ≡ Some files → most < length (content files name) → Answers files (Load name ∷ []) 14 line) → ((files : Files) → v.files ≡ Some files → (all : List Ask) (status : ℕ) (text : List ℕ) → Answers files all status text → BeginsWith all (Load name ∷ [])) → Ends v (Load name ∷ wanted) Answers result w
+unloaded_ends v w name most line wanted Answers result (fails is l) long first =
     record {
       answer = λ no11 no12 calm files told. absurd (no11 is);
       cut = λ which room files told. inl l.printed;
       failed = λ e. l.rose;
       grew = λ h. is;
       long = λ e. absurd (omega (arith, is, e));
-      asked = asked_first v w (Load name) wanted l.asked;
+      asked = asked_first v w (Load name) wanted (AskedFor Answers) l.asked (λ files told all b. first files told all b.0 b.1 b.2);
       files = l.files;
     }
-unloaded_ends v w name most line wanted Answers result (no_memory is s) long =
+unloaded_ends v w name most line wanted Answers result (no_memory is s) long first =
     record {
       answer = λ no11 no12 calm files told. absurd (no12 is);
       cut = λ which room files told. inl s.printed;
       failed = λ e. absurd (omega (arith, is, e));
       grew = λ h. absurd (omega (arith, h, s.faults));
       long = λ e. absurd (omega (arith, is, e));
-      asked = asked_nothing v w (Load name ∷ wanted) s.asked;
+      asked = asked_nothing v w (Load name ∷ wanted) (AskedFor Answers) s.asked;
       files = s.files;
     }
-unloaded_ends v w name most line wanted Answers result (is_long u l s) long =
+unloaded_ends v w name most line wanted Answers result (is_long u l s) long first =
     record {
       answer = λ no11 no12 calm files told.
           let said = s.said no11 no12 in
           let quiet : Rose v.faults u.faults → ⊥ = λ r. calm said.0 (subst (λ (n : ℕ). Rose v.faults n) (sym (s.same no11)) r) in
-          (line, subst (λ (n : ℕ). Answers files n line) (sym said.0) (long files told (l.exactly quiet files told)), said.1 ∙ ap (λ (o : Option (List ℕ)). appended o line) l.printed);
+          (Load name ∷ [], line, subst (λ (n : ℕ). Answers files (Load name ∷ []) n line) (sym said.0) (long files told (l.exactly quiet files told)), s.asked ∙ l.asked, said.1 ∙ ap (λ (o : Option (List ℕ)). appended o line) l.printed);
       cut = λ which room files told. cut which room files told;
       failed = λ e. subst (λ (n : ℕ). Rose n w.faults) l.faults (s.failed e).0;
       grew = λ h. elim (eqb_tells result 11) [ inl e ↦ e.1 | inr e ↦ absurd (omega (arith, h, s.same e.1, l.faults)) ];
       long = λ e. subst (λ (n : ℕ). Rose v.longs n) (sym s.longs) l.rose;
-      asked = asked_first v w (Load name) wanted (s.asked ∙ l.asked);
+      asked = asked_first v w (Load name) wanted (AskedFor Answers) (s.asked ∙ l.asked) (λ files told all b. first files told all b.0 b.1 b.2);
       files = s.files ∙ l.files;
     }
   where
@@ -143,9 +132,11 @@ unloaded_ends v w name most line wanted Answers result (is_long u l s) long =
     cut (inl e) room files told =
         let at = l.exactly (not_rose v.faults u.faults l.faults room) files told in
         inr (record {
+          some = Load name ∷ [];
           status = 14;
           text = line;
           answers = long files told at;
+          asked = s.asked ∙ l.asked;
           part = part_from v.printed u.printed w.printed line l.printed (s.failed e).1;
           tight = λ f. absurd (omega (arith, e, f));
           pieces = λ f. absurd (omega (arith, e, f));
@@ -153,15 +144,15 @@ unloaded_ends v w name most line wanted Answers result (is_long u l s) long =
     cut (inr e) room files told = inl (s.memory e ∙ l.printed)
 
 -- a report is printed
-pub report_ends : (v w : View) (Answers : Files → ℕ → List ℕ → Type 0) (text : List ℕ) (status : ℕ) → status ≢ 11 → status ≢ 12 → status ≢ 14 → Prints v text w → ((files : Files) → v.files ≡ Some files → Answers files status text) → Ends v [] Answers status w
+pub report_ends : (v w : View) (Answers : Files → List Ask → ℕ → List ℕ → Type 0) (text : List ℕ) (status : ℕ) → status ≢ 11 → status ≢ 12 → status ≢ 14 → Prints v text w → ((files : Files) → v.files ≡ Some files → Answers files [] status text) → Ends v [] Answers status w
 report_ends v w Answers text status no11 no12 no14 s is =
     record {
-      answer = λ n11 n12 calm files told. (text, is files told, s.printed);
+      answer = λ n11 n12 calm files told. ([], text, is files told, s.asked ∙ asks_none v.asked, s.printed);
       cut = λ which room files told. absurd (neither which);
       failed = λ e. absurd (no11 e);
       grew = λ h. absurd (omega (arith, h, s.faults));
       long = λ e. absurd (no14 e);
-      asked = asked_none v w s.asked;
+      asked = asked_nothing v w [] (AskedFor Answers) s.asked;
       files = s.files;
     }
   where
@@ -170,107 +161,123 @@ report_ends v w Answers text status no11 no12 no14 s is =
     neither (inr e) = no12 e
 
 -- a report could not be printed
-pub breaks_ends : (v w : View) (Answers : Files → ℕ → List ℕ → Type 0) (text : List ℕ) (status : ℕ) → Breaks v [] text Failed w → ((files : Files) → v.files ≡ Some files → Answers files status text) → Ends v [] Answers 11 w
+pub breaks_ends : (v w : View) (Answers : Files → List Ask → ℕ → List ℕ → Type 0) (text : List ℕ) (status : ℕ) → Breaks v [] text Failed w → ((files : Files) → v.files ≡ Some files → Answers files [] status text) → Ends v [] Answers 11 w
 breaks_ends v w Answers text status b is =
     record {
       answer = λ no11 no12 calm files told. absurd (no11 refl);
-      cut = λ which room files told. inr (record { status = status; text = text; answers = is files told; part = b.part; tight = λ e. absurd (omega arith); pieces = λ e. absurd (omega arith) });
+      cut = λ which room files told. inr (record { some = []; status = status; text = text; answers = is files told; asked = b.asked ∙ asks_none v.asked; part = b.part; tight = λ e. absurd (omega arith); pieces = λ e. absurd (omega arith) });
       failed = λ e. b.failed refl;
       grew = λ h. refl;
       long = λ e. absurd (omega arith);
-      asked = asked_none v w b.asked;
+      asked = asked_nothing v w [] (AskedFor Answers) b.asked;
       files = b.files;
     }
 
 -- there was no memory for a print
-pub tight_ends : (v w : View) (Answers : Files → ℕ → List ℕ → Type 0) (text : List ℕ) (status : ℕ) → Breaks v [] text Memory w → ((files : Files) → v.files ≡ Some files → Answers files status text) → Ends v [] Answers 12 w
+pub tight_ends : (v w : View) (Answers : Files → List Ask → ℕ → List ℕ → Type 0) (text : List ℕ) (status : ℕ) → Breaks v [] text Memory w → ((files : Files) → v.files ≡ Some files → Answers files [] status text) → Ends v [] Answers 12 w
 tight_ends v w Answers text status b is =
     record {
       answer = λ no11 no12 calm files told. absurd (no12 refl);
-      cut = λ which room files told. inr (record { status = status; text = text; answers = is files told; part = b.part; tight = λ e h. b.memory refl h; pieces = λ e. b.pieces refl });
+      cut = λ which room files told. inr (record { some = []; status = status; text = text; answers = is files told; asked = b.asked ∙ asks_none v.asked; part = b.part; tight = λ e h. b.memory refl h; pieces = λ e. b.pieces refl });
       failed = λ e. absurd (omega arith);
       grew = λ h. absurd (omega (arith, h, b.same (λ e. cc)));
       long = λ e. absurd (omega arith);
-      asked = asked_none v w b.asked;
+      asked = asked_nothing v w [] (AskedFor Answers) b.asked;
       files = b.files;
     }
 
 -- an answer is one of these too, and more could have been asked
-pub ends_as : (v w : View) (wanted more : List Ask) (Some_answers Answers : Files → ℕ → List ℕ → Type 0) (result : ℕ) → Ends v wanted Some_answers result w → ((files : Files) → v.files ≡ Some files → (status : ℕ) (text : List ℕ) → Some_answers files status text → Answers files status text) → Ends v (wanted ++ more) Answers result w
-ends_as v w wanted more Some_answers Answers result e map =
+pub ends_as : (v w : View) (wanted more : List Ask) (Some_answers Answers : Files → List Ask → ℕ → List ℕ → Type 0) (result : ℕ) → Ends v wanted Some_answers result w → ((files : Files) → v.files ≡ Some files → (some : List Ask) (status : ℕ) (text : List ℕ) → Some_answers files some status text → Answers files some status text) → ((files : Files) → v.files ≡ Some files → (all : List Ask) (status : ℕ) (text : List ℕ) → Answers files all status text → BeginsWith all wanted) → Ends v (wanted ++ more) Answers result w
+ends_as v w wanted more Some_answers Answers result e map first =
     record {
-      answer = λ no11 no12 calm files told. let a = e.answer no11 no12 calm files told in (a.0, map files told result a.0 a.1, a.2);
+      answer = λ no11 no12 calm files told. let a = e.answer no11 no12 calm files told in (a.0, a.1, map files told a.0 result a.1 a.2, a.3, a.4);
       cut = λ which room files told. go files told (e.cut which room files told);
       failed = e.failed;
       grew = e.grew;
       long = e.long;
-      asked = λ asked told. let there = e.asked asked told in (there.0, there.1 ++ more, ap (λ (l : List Ask). l ++ more) there.2 ∙ append_assoc there.0 there.1 more, there.3);
+      asked = asked_more v w wanted more (AskedFor Answers)
+          (asked_within v w wanted (AskedFor Some_answers) (AskedFor Answers) e.asked (λ files told all is. first files told all is.0 is.1 is.2));
       files = e.files;
     }
   where
     go : (files : Files) → v.files ≡ Some files → (w.printed ≡ v.printed) ⊎ IsCut v files Some_answers result w → (w.printed ≡ v.printed) ⊎ IsCut v files Answers result w
     go files told (inl same) = inl same
-    go files told (inr c) = inr (record { status = c.status; text = c.text; answers = map files told c.status c.text c.answers; part = c.part; tight = c.tight; pieces = c.pieces })
+    go files told (inr c) = inr (record { some = c.some; status = c.status; text = c.text; answers = map files told c.some c.status c.text c.answers; asked = c.asked; part = c.part; tight = c.tight; pieces = c.pieces })
 
 -- Answers by steps
 
 -- a file is loaded, and the answer goes on with its bytes
-pub after_load : (v u w : View) (kind : FileKind) (name bytes : List ℕ) (wanted : List Ask) (Next : Files → List ℕ → ℕ → List ℕ → Type 0) (result : ℕ) → Loaded v name (most kind) bytes u → Ends u wanted (λ files. Next files bytes) result w → Ends v (Load name ∷ wanted) (λ files. AfterLoad kind name (Next files) files) result w
+pub after_load : (v u w : View) (kind : FileKind) (name bytes : List ℕ) (wanted : List Ask) (Next : Files → List ℕ → List Ask → ℕ → List ℕ → Type 0) (result : ℕ) → Loaded v name (most kind) bytes u → Ends u wanted (λ files. Next files bytes) result w → Ends v (Load name ∷ wanted) (λ files. AfterLoad kind name (Next files) files) result w
 after_load v u w kind name bytes wanted Next result l e =
     loaded_ends v u w name (most kind) bytes wanted (λ files. AfterLoad kind name (Next files) files) (λ files. Next files bytes) result l e
-    (λ files told is status text next. loaded (subst (λ (b : List ℕ). length b ≤ most kind) is l.short) (subst (λ (b : List ℕ). Next files b status text) is next))
+    (λ files told is some status text next. loaded some refl (subst (λ (b : List ℕ). length b ≤ most kind) is l.short) (subst (λ (b : List ℕ). Next files b some status text) is next))
+    (λ files told is all status text a. load_back kind name bytes (Next files) files all status text l.short is a)
 
 -- a file is not loaded
-pub not_loaded : (v w : View) (kind : FileKind) (name : List ℕ) (wanted : List Ask) (Next : Files → List ℕ → ℕ → List ℕ → Type 0) (result : ℕ) → Unloaded v name (most kind) (too_long_line kind) result w → Ends v (Load name ∷ wanted) (λ files. AfterLoad kind name (Next files) files) result w
+pub not_loaded : (v w : View) (kind : FileKind) (name : List ℕ) (wanted : List Ask) (Next : Files → List ℕ → List Ask → ℕ → List ℕ → Type 0) (result : ℕ) → Unloaded v name (most kind) (too_long_line kind) result w → Ends v (Load name ∷ wanted) (λ files. AfterLoad kind name (Next files) files) result w
 not_loaded v w kind name wanted Next result u =
-    unloaded_ends v w name (most kind) (too_long_line kind) wanted (λ files. AfterLoad kind name (Next files) files) result u (λ files told long. long_file long (refl, refl))
+    unloaded_ends v w name (most kind) (too_long_line kind) wanted (λ files. AfterLoad kind name (Next files) files) result u (λ files told long. long_file refl long (refl, refl))
+    (λ files told all status text a. load_first kind name (Next files) files all status text a)
+
+-- a file is loaded, and there is no memory to read it
+pub no_memory_behind : (v w : View) (kind : FileKind) (name bytes : List ℕ) (wanted : List Ask) (Next : Files → List ℕ → List Ask → ℕ → List ℕ → Type 0) → Loaded v name (most kind) bytes w → Ends v (Load name ∷ wanted) (λ files. AfterLoad kind name (Next files) files) 12 w
+no_memory_behind v w kind name bytes wanted Next l =
+    after_load v w w kind name bytes wanted Next 12 l (memory_ends w w wanted (λ files. Next files bytes) (record { files = refl; printed = refl; asked = refl; faults = refl }))
 
 -- a refused image or script is refused whatever would come next
 
-pub refused_image : (name : List ℕ) (Next : Files → ImageState → ℕ → List ℕ → Type 0) (files : Files) (status : ℕ) (text : List ℕ) → AfterLoad Image name (λ bytes. AfterImage bytes (λ i s t. ⊥)) files status text → AfterLoad Image name (λ bytes. AfterImage bytes (Next files)) files status text
-refused_image name Next files status text (long_file l is) = long_file l is
-refused_image name Next files status text (loaded s (no_image fault has is)) = loaded s (no_image fault has is)
-refused_image name Next files status text (loaded s (an_image image is next)) = absurd next
+pub refused_image : (name : List ℕ) (Next : Files → ImageState → List Ask → ℕ → List ℕ → Type 0) (files : Files) (asked : List Ask) (status : ℕ) (text : List ℕ) → AfterLoad Image name (λ bytes. AfterImage bytes (λ i a s t. ⊥)) files asked status text → AfterLoad Image name (λ bytes. AfterImage bytes (Next files)) files asked status text
+refused_image name Next files asked status text (long_file e l is) = long_file e l is
+refused_image name Next files asked status text (loaded rest e s (no_image fault has none is)) = loaded rest e s (no_image fault has none is)
+refused_image name Next files asked status text (loaded rest e s (an_image image is next)) = absurd next
 
-pub refused_script : (name : List ℕ) (Next : ScriptState → ℕ → List ℕ → Type 0) (files : Files) (status : ℕ) (text : List ℕ) → AfterLoad Script name (λ lines. AfterScript lines (λ i s t. ⊥)) files status text → AfterLoad Script name (λ lines. AfterScript lines Next) files status text
-refused_script name Next files status text (long_file l is) = long_file l is
-refused_script name Next files status text (loaded s (no_script fault has is)) = loaded s (no_script fault has is)
-refused_script name Next files status text (loaded s (a_script script is next)) = absurd next
+pub refused_script : (name : List ℕ) (Next : ScriptState → List Ask → ℕ → List ℕ → Type 0) (files : Files) (asked : List Ask) (status : ℕ) (text : List ℕ) → AfterLoad Script name (λ lines. AfterScript lines (λ i a s t. ⊥)) files asked status text → AfterLoad Script name (λ lines. AfterScript lines Next) files asked status text
+refused_script name Next files asked status text (long_file e l is) = long_file e l is
+refused_script name Next files asked status text (loaded rest e s (no_script fault has none is)) = loaded rest e s (no_script fault has none is)
+refused_script name Next files asked status text (loaded rest e s (a_script script is next)) = absurd next
 
 -- a script is loaded and read, and its run follows
-pub after_script : (v u w : View) (name bytes : List ℕ) (script : ScriptState) (Next : ScriptState → ℕ → List ℕ → Type 0) (result : ℕ) → Loaded v name 1048576 bytes u → IsText bytes script → Ends u [] (λ files. Next script) result w → Ends v (Load name ∷ []) (AfterLoad Script name (λ lines. AfterScript lines Next)) result w
+pub after_script : (v u w : View) (name bytes : List ℕ) (script : ScriptState) (Next : ScriptState → List Ask → ℕ → List ℕ → Type 0) (result : ℕ) → Loaded v name 1048576 bytes u → IsText bytes script → Ends u [] (λ files. Next script) result w → Ends v (Load name ∷ []) (AfterLoad Script name (λ lines. AfterScript lines Next)) result w
 after_script v u w name bytes script Next result l is e =
     after_load v u w Script name bytes [] (λ files lines. AfterScript lines Next) result l
-    (ends_as u w [] [] (λ files. Next script) (λ files. AfterScript bytes Next) result e (λ files told status text next. a_script script is next))
+    (ends_as u w [] [] (λ files. Next script) (λ files. AfterScript bytes Next) result e (λ files told some status text next. a_script script is next) (λ files told all status text a. begins_none all))
 
 -- a script is not read
-pub no_script_ends : (v w : View) (name : List ℕ) (Next : ScriptState → ℕ → List ℕ → Type 0) (result : ℕ) → Ends v (Load name ∷ []) (AfterLoad Script name (λ lines. AfterScript lines (λ i s t. ⊥))) result w → Ends v (Load name ∷ []) (AfterLoad Script name (λ lines. AfterScript lines Next)) result w
+pub no_script_ends : (v w : View) (name : List ℕ) (Next : ScriptState → List Ask → ℕ → List ℕ → Type 0) (result : ℕ) → Ends v (Load name ∷ []) (AfterLoad Script name (λ lines. AfterScript lines (λ i a s t. ⊥))) result w → Ends v (Load name ∷ []) (AfterLoad Script name (λ lines. AfterScript lines Next)) result w
 no_script_ends v w name Next result e =
-    ends_as v w (Load name ∷ []) [] (AfterLoad Script name (λ lines. AfterScript lines (λ i s t. ⊥))) (AfterLoad Script name (λ lines. AfterScript lines Next)) result e (λ files told status text. refused_script name Next files status text)
+    ends_as v w (Load name ∷ []) [] (AfterLoad Script name (λ lines. AfterScript lines (λ i a s t. ⊥))) (AfterLoad Script name (λ lines. AfterScript lines Next)) result e
+    (λ files told some status text a. refused_script name Next files some status text a)
+    (λ files told all status text a. load_first Script name (λ lines. AfterScript lines Next) files all status text a)
 
 -- an image is loaded and read, and the rest of the command follows
-pub after_image : (v u w : View) (name bytes : List ℕ) (image : ImageState) (wanted : List Ask) (Next : Files → ImageState → ℕ → List ℕ → Type 0) (result : ℕ) → Loaded v name 131072 bytes u → IsImage bytes image → Ends u wanted (λ files. Next files image) result w → Ends v (Load name ∷ wanted) (λ files. AfterLoad Image name (λ b. AfterImage b (Next files)) files) result w
+pub after_image : (v u w : View) (name bytes : List ℕ) (image : ImageState) (wanted : List Ask) (Next : Files → ImageState → List Ask → ℕ → List ℕ → Type 0) (result : ℕ) → Loaded v name 131072 bytes u → IsImage bytes image → Ends u wanted (λ files. Next files image) result w → Ends v (Load name ∷ wanted) (λ files. AfterLoad Image name (λ b. AfterImage b (Next files)) files) result w
 after_image v u w name bytes image wanted Next result l is e =
     loaded_ends v u w name 131072 bytes wanted (λ files. AfterLoad Image name (λ b. AfterImage b (Next files)) files) (λ files. Next files image) result l e
-    (λ files told same status text next. loaded (subst (λ (b : List ℕ). length b ≤ 131072) same l.short) (an_image image (subst (λ (b : List ℕ). IsImage b image) same is) next))
+    (λ files told same some status text next. loaded some refl (subst (λ (b : List ℕ). length b ≤ 131072) same l.short) (an_image image (subst (λ (b : List ℕ). IsImage b image) same is) next))
+    (λ files told same all status text a. let b = load_back Image name bytes (λ b. AfterImage b (Next files)) files all status text l.short same a in (b.0, b.1, image_back bytes image (Next files) b.0 status text is b.2))
 
 -- an image is not read
-pub no_image_ends : (v w : View) (name : List ℕ) (more : List Ask) (Next : Files → ImageState → ℕ → List ℕ → Type 0) (result : ℕ) → Ends v (Load name ∷ []) (AfterLoad Image name (λ b. AfterImage b (λ i s t. ⊥))) result w → Ends v (Load name ∷ more) (λ files. AfterLoad Image name (λ b. AfterImage b (Next files)) files) result w
+pub no_image_ends : (v w : View) (name : List ℕ) (more : List Ask) (Next : Files → ImageState → List Ask → ℕ → List ℕ → Type 0) (result : ℕ) → Ends v (Load name ∷ []) (AfterLoad Image name (λ b. AfterImage b (λ i a s t. ⊥))) result w → Ends v (Load name ∷ more) (λ files. AfterLoad Image name (λ b. AfterImage b (Next files)) files) result w
 no_image_ends v w name more Next result e =
-    ends_as v w (Load name ∷ []) more (AfterLoad Image name (λ b. AfterImage b (λ i s t. ⊥))) (λ files. AfterLoad Image name (λ b. AfterImage b (Next files)) files) result e (λ files told status text. refused_image name Next files status text)
+    ends_as v w (Load name ∷ []) more (AfterLoad Image name (λ b. AfterImage b (λ i a s t. ⊥))) (λ files. AfterLoad Image name (λ b. AfterImage b (Next files)) files) result e
+    (λ files told some status text a. refused_image name Next files some status text a)
+    (λ files told all status text a. load_first Image name (λ b. AfterImage b (Next files)) files all status text a)
 
-pub refused_settings : (name : List ℕ) (Next : Files → Numbers → ℕ → List ℕ → Type 0) (files : Files) (status : ℕ) (text : List ℕ) → AfterLoad Settings name (λ b. AfterReadingSettings b (λ i s t. ⊥)) files status text → AfterLoad Settings name (λ b. AfterReadingSettings b (Next files)) files status text
-refused_settings name Next files status text (long_file l is) = long_file l is
-refused_settings name Next files status text (loaded s (no_settings fault other has is)) = loaded s (no_settings fault other has is)
-refused_settings name Next files status text (loaded s (some_settings numbers is next)) = absurd next
+pub refused_settings : (name : List ℕ) (Next : Files → Numbers → List Ask → ℕ → List ℕ → Type 0) (files : Files) (asked : List Ask) (status : ℕ) (text : List ℕ) → AfterLoad Settings name (λ b. AfterReadingSettings b (λ i a s t. ⊥)) files asked status text → AfterLoad Settings name (λ b. AfterReadingSettings b (Next files)) files asked status text
+refused_settings name Next files asked status text (long_file e l is) = long_file e l is
+refused_settings name Next files asked status text (loaded rest e s (no_settings fault other has none is)) = loaded rest e s (no_settings fault other has none is)
+refused_settings name Next files asked status text (loaded rest e s (some_settings numbers is next)) = absurd next
 
 -- settings are loaded and read, and the rest of the command follows
-pub after_settings : (v u w : View) (name bytes : List ℕ) (numbers : Numbers) (wanted : List Ask) (Next : Files → Numbers → ℕ → List ℕ → Type 0) (result : ℕ) → Loaded v name 4096 bytes u → AnswersSettings bytes (Ok numbers) → Ends u wanted (λ files. Next files numbers) result w → Ends v (Load name ∷ wanted) (λ files. AfterLoad Settings name (λ b. AfterReadingSettings b (Next files)) files) result w
+pub after_settings : (v u w : View) (name bytes : List ℕ) (numbers : Numbers) (wanted : List Ask) (Next : Files → Numbers → List Ask → ℕ → List ℕ → Type 0) (result : ℕ) → Loaded v name 4096 bytes u → AnswersSettings bytes (Ok numbers) → Ends u wanted (λ files. Next files numbers) result w → Ends v (Load name ∷ wanted) (λ files. AfterLoad Settings name (λ b. AfterReadingSettings b (Next files)) files) result w
 after_settings v u w name bytes numbers wanted Next result l is e =
     loaded_ends v u w name 4096 bytes wanted (λ files. AfterLoad Settings name (λ b. AfterReadingSettings b (Next files)) files) (λ files. Next files numbers) result l e
-    (λ files told same status text next. loaded (subst (λ (b : List ℕ). length b ≤ 4096) same l.short) (some_settings numbers (subst (λ (b : List ℕ). AnswersSettings b (Ok numbers)) same is) next))
+    (λ files told same some status text next. loaded some refl (subst (λ (b : List ℕ). length b ≤ 4096) same l.short) (some_settings numbers (subst (λ (b : List ℕ). AnswersSettings b (Ok numbers)) same is) next))
+    (λ files told same all status text a. let b = load_back Settings name bytes (λ b. AfterReadingSettings b (Next files)) files all status text l.short same a in (b.0, b.1, settings_back bytes numbers (Next files) b.0 status text is b.2))
 
 -- settings are not read
-pub no_settings_end : (v w : View) (name : List ℕ) (more : List Ask) (Next : Files → Numbers → ℕ → List ℕ → Type 0) (result : ℕ) → Ends v (Load name ∷ []) (AfterLoad Settings name (λ b. AfterReadingSettings b (λ i s t. ⊥))) result w → Ends v (Load name ∷ more) (λ files. AfterLoad Settings name (λ b. AfterReadingSettings b (Next files)) files) result w
+pub no_settings_end : (v w : View) (name : List ℕ) (more : List Ask) (Next : Files → Numbers → List Ask → ℕ → List ℕ → Type 0) (result : ℕ) → Ends v (Load name ∷ []) (AfterLoad Settings name (λ b. AfterReadingSettings b (λ i a s t. ⊥))) result w → Ends v (Load name ∷ more) (λ files. AfterLoad Settings name (λ b. AfterReadingSettings b (Next files)) files) result w
 no_settings_end v w name more Next result e =
-    ends_as v w (Load name ∷ []) more (AfterLoad Settings name (λ b. AfterReadingSettings b (λ i s t. ⊥))) (λ files. AfterLoad Settings name (λ b. AfterReadingSettings b (Next files)) files) result e (λ files told status text. refused_settings name Next files status text)
+    ends_as v w (Load name ∷ []) more (AfterLoad Settings name (λ b. AfterReadingSettings b (λ i a s t. ⊥))) (λ files. AfterLoad Settings name (λ b. AfterReadingSettings b (Next files)) files) result e
+    (λ files told some status text a. refused_settings name Next files some status text a)
+    (λ files told all status text a. load_first Settings name (λ b. AfterReadingSettings b (Next files)) files all status text a)

@@ -1,16 +1,17 @@
 -- Commands that may save a file.
-use Rattle.std.proofs.Common.{◌≡◌, ◌≢◌, ◌≤◌, ◌<◌, ◌-◌, ◌^◌, ◌⊎◌, ℕ, List, [], ◌∷◌, ◌++◌, length, Option, Some, None, Ok, refl, sym, ap, ◌∙◌, subst, arith, inl, inr, append_assoc}
+use Rattle.std.proofs.Common.{◌≡◌, ◌≢◌, ◌≤◌, ◌<◌, ◌-◌, ◌^◌, ◌⊎◌, ℕ, List, [], ◌∷◌, ◌++◌, length, Option, Some, None, Ok, refl, sym, ap, ◌∙◌, subst, arith, inl, inr}
 use Rattle.std.specs.Prelude.{codes, decimal}
 use Rattle.std.proofs.lemmas.Bool.Decides.{eqb_tells}
 use Rattle.mc_shelf.specs.declared.ask.Ask.{Ask}
 use Rattle.mc_shelf.specs.declared.ask.Ask.TheVariants.{Load, Save}
-use Rattle.mc_shelf.specs.Outside.{Files, content, Told, Rose, placed, appended, IsPart, asks}
+use Rattle.mc_shelf.specs.Outside.{Files, content, Rose, placed, appended, IsPart, asks}
 use Rattle.mc_words.specs.Settings.{Numbers, AnswersSettings}
 use Rattle.mc_driver.specs.declared.files.FileKind.{FileKind}
 use Rattle.mc_driver.specs.declared.files.FileKind.TheVariants.{Settings}
-use Rattle.mc_driver.specs.Outside.{View, Loaded, Says, IsSame, KeepsOthers, IsCut, IsCutOff, Ends, EndsSaving, IsSavedTo}
+use Rattle.mc_driver.specs.Outside.{View, BeginsWith, AsksPart, AskedFor, AskedForSaving, Loaded, Says, IsSame, KeepsOthers, IsCut, IsCutOff, Ends, EndsSaving, IsSavedTo}
 use Rattle.mc_driver.specs.Answer.{most, AfterLoad, loaded, AfterReadingSettings, some_settings, with_file, IsSaved, SavesNothing, SavesWhenDone}
-use Rattle.mc_driver.proofs.Endings.{part_from, pieces_from, memory_ends}
+use Rattle.mc_driver.proofs.Asking.{one_more, asked_nothing, asked_first, asked_then, asked_within, asked_more, load_back, settings_back}
+use Rattle.mc_driver.proofs.Endings.{part_from, pieces_from}
 use Rattle.mc_driver.proofs.Streams.{appended-none, pieces_none}
 
 keeps_all : (target : Option (List ℕ)) (before after : Option Files) → after ≡ before → KeepsOthers target before after
@@ -20,61 +21,84 @@ keeps_all (Some name) before after e = inl e
 keeps_from : (target : Option (List ℕ)) (before between after : Option Files) → between ≡ before → KeepsOthers target between after → KeepsOthers target before after
 keeps_from target before between after e k = subst (λ (b : Option Files). KeepsOthers target b after) e k
 
--- a command that saves nothing
-pub saves_none : (v w : View) (wanted : List Ask) (target : Option (List ℕ)) (Some_answers : Files → ℕ → List ℕ → Type 0) (Answers : Files → Files → ℕ → List ℕ → Type 0) (result : ℕ) → Ends v wanted Some_answers result w → ((files : Files) → v.files ≡ Some files → (status : ℕ) (text : List ℕ) → Some_answers files status text → Answers files files status text) → EndsSaving v wanted target Answers result w
-saves_none v w wanted target Some_answers Answers result e map =
+-- a command that saves nothing, where so much was asked
+saves_asked : (v w : View) (wanted all_wanted : List Ask) (target : Option (List ℕ)) (Some_answers : Files → List Ask → ℕ → List ℕ → Type 0) (Answers : Files → Files → List Ask → ℕ → List ℕ → Type 0) (result : ℕ) → Ends v wanted Some_answers result w → ((files : Files) → v.files ≡ Some files → (some : List Ask) (status : ℕ) (text : List ℕ) → Some_answers files some status text → Answers files files some status text) → AsksPart v all_wanted (AskedForSaving Answers) w → EndsSaving v all_wanted target Answers result w
+saves_asked v w wanted all_wanted target Some_answers Answers result e map asked =
     record {
-      answer = λ no11 no12 calm files told. let a = e.answer no11 no12 calm files told in (files, a.0, map files told result a.0 a.1, e.files ∙ told, a.2);
+      answer = λ no11 no12 calm files told. let a = e.answer no11 no12 calm files told in (files, a.0, a.1, map files told a.0 result a.1 a.2, e.files ∙ told, a.3, a.4);
       cut = λ which room files told. go files told (e.cut which room files told);
       failed = e.failed;
       grew = e.grew;
       long = e.long;
-      asked = e.asked;
+      asked = asked;
       files = keeps_all target v.files w.files e.files;
     }
   where
     go : (files : Files) → v.files ≡ Some files → (w.printed ≡ v.printed) ⊎ IsCut v files Some_answers result w → ((w.printed ≡ v.printed) × (w.files ≡ v.files)) ⊎ IsCutOff v files target Answers result w
     go files told (inl same) = inl (same, e.files)
     go files told (inr c) =
-        inr (record { after = files; status = c.status; text = c.text; answers = map files told c.status c.text c.answers; part = c.part; files = inl (e.files ∙ told); tight = c.tight; pieces = c.pieces })
+        inr (record {
+          after = files;
+          some = c.some;
+          status = c.status;
+          text = c.text;
+          answers = map files told c.some c.status c.text c.answers;
+          asked = c.asked;
+          part = c.part;
+          files = inl (e.files ∙ told);
+          tight = c.tight;
+          pieces = c.pieces;
+        })
+
+-- a command that saves nothing; more could have been asked
+pub saves_none : (v w : View) (wanted more : List Ask) (target : Option (List ℕ)) (Some_answers : Files → List Ask → ℕ → List ℕ → Type 0) (Answers : Files → Files → List Ask → ℕ → List ℕ → Type 0) (result : ℕ) → Ends v wanted Some_answers result w → ((files : Files) → v.files ≡ Some files → (some : List Ask) (status : ℕ) (text : List ℕ) → Some_answers files some status text → Answers files files some status text) → ((files : Files) → v.files ≡ Some files → (after : Files) (all : List Ask) (status : ℕ) (text : List ℕ) → Answers files after all status text → BeginsWith all wanted) → EndsSaving v (wanted ++ more) target Answers result w
+saves_none v w wanted more target Some_answers Answers result e map first =
+    saves_asked v w wanted (wanted ++ more) target Some_answers Answers result e map
+    (asked_more v w wanted more (AskedForSaving Answers)
+    (asked_within v w wanted (AskedFor Some_answers) (AskedForSaving Answers) e.asked (λ files told all is. first files told is.0 all is.1 is.2 is.3)))
 
 -- its answers are among those of all commands
-pub plain_ends : (v w : View) (wanted : List Ask) (Answers : Files → ℕ → List ℕ → Type 0) (result : ℕ) → Ends v wanted Answers result w → EndsSaving v wanted None (SavesNothing Answers) result w
+pub plain_ends : (v w : View) (wanted : List Ask) (Answers : Files → List Ask → ℕ → List ℕ → Type 0) (result : ℕ) → Ends v wanted Answers result w → EndsSaving v wanted None (SavesNothing Answers) result w
 plain_ends v w wanted Answers result e =
-    saves_none v w wanted None Answers (SavesNothing Answers) result e (λ files told status text a. record { kept = refl; answers = a })
+    saves_asked v w wanted wanted None Answers (SavesNothing Answers) result e (λ files told some status text a. record { kept = refl; answers = a })
+    (record {
+      some = e.asked.some;
+      asked = e.asked.asked;
+      in_order = e.asked.in_order;
+      none_behind = λ files told all is. e.asked.none_behind files told all (is.1, is.2, is.3.answers);
+    })
 
 -- an answer is one of these too
-pub saving_as : (v w : View) (wanted : List Ask) (target : Option (List ℕ)) (Some_answers Answers : Files → Files → ℕ → List ℕ → Type 0) (result : ℕ) → EndsSaving v wanted target Some_answers result w → ((files : Files) → v.files ≡ Some files → (after : Files) (status : ℕ) (text : List ℕ) → Some_answers files after status text → Answers files after status text) → EndsSaving v wanted target Answers result w
-saving_as v w wanted target Some_answers Answers result e map =
+pub saving_as : (v w : View) (wanted : List Ask) (target : Option (List ℕ)) (Some_answers Answers : Files → Files → List Ask → ℕ → List ℕ → Type 0) (result : ℕ) → EndsSaving v wanted target Some_answers result w → ((files : Files) → v.files ≡ Some files → (after : Files) (some : List Ask) (status : ℕ) (text : List ℕ) → Some_answers files after some status text → Answers files after some status text) → ((files : Files) → v.files ≡ Some files → (after : Files) (all : List Ask) (status : ℕ) (text : List ℕ) → Answers files after all status text → BeginsWith all wanted) → EndsSaving v wanted target Answers result w
+saving_as v w wanted target Some_answers Answers result e map first =
     record {
-      answer = λ no11 no12 calm files told. let a = e.answer no11 no12 calm files told in (a.0, a.1, map files told a.0 result a.1 a.2, a.3, a.4);
+      answer = λ no11 no12 calm files told. let a = e.answer no11 no12 calm files told in (a.0, a.1, a.2, map files told a.0 a.1 result a.2 a.3, a.4, a.5, a.6);
       cut = λ which room files told. go files told (e.cut which room files told);
       failed = e.failed;
       grew = e.grew;
       long = e.long;
-      asked = e.asked;
+      asked = asked_within v w wanted (AskedForSaving Some_answers) (AskedForSaving Answers) e.asked (λ files told all is. first files told is.0 all is.1 is.2 is.3);
       files = e.files;
     }
   where
     go : (files : Files) → v.files ≡ Some files → ((w.printed ≡ v.printed) × (w.files ≡ v.files)) ⊎ IsCutOff v files target Some_answers result w → ((w.printed ≡ v.printed) × (w.files ≡ v.files)) ⊎ IsCutOff v files target Answers result w
     go files told (inl same) = inl same
-    go files told (inr c) = inr (record { after = c.after; status = c.status; text = c.text; answers = map files told c.after c.status c.text c.answers; part = c.part; files = c.files; tight = c.tight; pieces = c.pieces })
+    go files told (inr c) = inr (record { after = c.after; some = c.some; status = c.status; text = c.text; answers = map files told c.after c.some c.status c.text c.answers; asked = c.asked; part = c.part; files = c.files; tight = c.tight; pieces = c.pieces })
 
 -- a file is loaded, and then the rest of the command follows
-pub loaded_saving : (v u w : View) (name : List ℕ) (most : ℕ) (bytes : List ℕ) (wanted : List Ask) (target : Option (List ℕ)) (Answers Left : Files → Files → ℕ → List ℕ → Type 0) (result : ℕ) → Loaded v name most bytes u → EndsSaving u wanted target Left result w → ((files : Files) → v.files ≡ Some files → bytes ≡ content files name → (after : Files) (status : ℕ) (text : List ℕ) → Left files after status text → Answers files after status text) → EndsSaving v (Load name ∷ wanted) target Answers result w
-loaded_saving v u w name most bytes wanted target Answers Left result l e map =
+pub loaded_saving : (v u w : View) (name : List ℕ) (most : ℕ) (bytes : List ℕ) (wanted : List Ask) (target : Option (List ℕ)) (Answers Left : Files → Files → List Ask → ℕ → List ℕ → Type 0) (result : ℕ) → Loaded v name most bytes u → EndsSaving u wanted target Left result w → ((files : Files) → v.files ≡ Some files → bytes ≡ content files name → (after : Files) (some : List Ask) (status : ℕ) (text : List ℕ) → Left files after some status text → Answers files after (Load name ∷ some) status text) → ((files : Files) → v.files ≡ Some files → bytes ≡ content files name → (after : Files) (all : List Ask) (status : ℕ) (text : List ℕ) → Answers files after all status text → (rest : List Ask) × (all ≡ Load name ∷ rest) × Left files after rest status text) → EndsSaving v (Load name ∷ wanted) target Answers result w
+loaded_saving v u w name most bytes wanted target Answers Left result l e map back =
     record {
       answer = λ no11 no12 calm files told.
           let calm_there : result ≡ 14 → Rose u.faults w.faults → ⊥ = λ f r. calm f (subst (λ (n : ℕ). Rose n w.faults) l.faults r) in
           let a = e.answer no11 no12 calm_there files (l.files ∙ told) in
-          (a.0, a.1, map files told (l.told files told) a.0 result a.1 a.2, a.3, a.4 ∙ ap (λ (o : Option (List ℕ)). appended o a.1) l.printed);
+          (a.0, Load name ∷ a.1, a.2, map files told (l.told files told) a.0 a.1 result a.2 a.3, a.4, one_more v.asked u.asked w.asked (Load name) a.1 l.asked a.5, a.6 ∙ ap (λ (o : Option (List ℕ)). appended o a.2) l.printed);
       cut = λ which room files told. go files told (e.cut which (subst (λ (n : ℕ). n < 2 ^ 64 - 1) (sym l.faults) room) files (l.files ∙ told));
       failed = λ f. subst (λ (n : ℕ). Rose n w.faults) l.faults (e.failed f);
       grew = λ h. e.grew (subst (λ (n : ℕ). n < w.faults) (sym l.faults) h);
       long = λ f. subst (λ (n : ℕ). Rose n w.longs) l.longs (e.long f);
-      asked = λ asked told.
-          let there = e.asked (asked ++ Load name ∷ []) (l.asked ∙ ap (λ (o : Option (List Ask)). asks o (Load name)) told) in
-          (Load name ∷ there.0, there.1, ap (λ (k : List Ask). Load name ∷ k) there.2, there.3 ∙ ap (λ (k : List Ask). let o : Option (List Ask) = Some k in o) (append_assoc asked (Load name ∷ []) there.0));
+      asked = asked_then v u w (Load name) wanted (AskedForSaving Answers) (AskedForSaving Left) l.asked l.files e.asked
+          (λ files told all is. let b = back files told (l.told files told) is.0 all is.1 is.2 is.3 in (b.0, b.1, (is.0, is.1, is.2, b.2)));
       files = keeps_from target v.files u.files w.files l.files e.files;
     }
   where
@@ -83,9 +107,11 @@ loaded_saving v u w name most bytes wanted target Answers Left result l e map =
     go files told (inr c) =
         inr (record {
           after = c.after;
+          some = Load name ∷ c.some;
           status = c.status;
           text = c.text;
-          answers = map files told (l.told files told) c.after c.status c.text c.answers;
+          answers = map files told (l.told files told) c.after c.some c.status c.text c.answers;
+          asked = one_more v.asked u.asked w.asked (Load name) c.some l.asked c.asked;
           part = part_from v.printed u.printed w.printed c.text l.printed c.part;
           files = there c.files;
           tight = λ f h. c.tight f (l.room (length c.text) h);
@@ -97,27 +123,39 @@ loaded_saving v u w name most bytes wanted target Answers Left result l e map =
         there (inr (done, same, others)) = inr (done, same ∙ l.printed, keeps_from target v.files u.files w.files l.files others)
 
 -- a file is loaded, and the answer goes on with its bytes
-pub after_load_saving : (v u w : View) (kind : FileKind) (name bytes : List ℕ) (wanted : List Ask) (target : Option (List ℕ)) (Next : List ℕ → Files → Files → ℕ → List ℕ → Type 0) (result : ℕ) → Loaded v name (most kind) bytes u → EndsSaving u wanted target (SavesWhenDone (Next bytes)) result w → EndsSaving v (Load name ∷ wanted) target (SavesWhenDone (λ files after. AfterLoad kind name (λ b. Next b files after) files)) result w
+pub after_load_saving : (v u w : View) (kind : FileKind) (name bytes : List ℕ) (wanted : List Ask) (target : Option (List ℕ)) (Next : List ℕ → Files → Files → List Ask → ℕ → List ℕ → Type 0) (result : ℕ) → Loaded v name (most kind) bytes u → EndsSaving u wanted target (SavesWhenDone (Next bytes)) result w → EndsSaving v (Load name ∷ wanted) target (SavesWhenDone (λ files after. AfterLoad kind name (λ b. Next b files after) files)) result w
 after_load_saving v u w kind name bytes wanted target Next result l e =
     loaded_saving v u w name (most kind) bytes wanted target (SavesWhenDone (λ files after. AfterLoad kind name (λ b. Next b files after) files)) (SavesWhenDone (Next bytes)) result l e
-    (λ files told is after status text next. record {
+    (λ files told is after some status text next. record {
       kept = next.kept;
-      answers = loaded (subst (λ (b : List ℕ). length b ≤ most kind) is l.short) (subst (λ (b : List ℕ). Next b files after status text) is next.answers);
+      answers = loaded some refl (subst (λ (b : List ℕ). length b ≤ most kind) is l.short) (subst (λ (b : List ℕ). Next b files after some status text) is next.answers);
     })
+    (λ files told is after all status text a.
+    let b = load_back kind name bytes (λ b. Next b files after) files all status text l.short is a.answers in (b.0, b.1, record { kept = a.kept; answers = b.2 }))
 
 -- settings are loaded and read, and the answer goes on with them
-pub after_settings_saving : (v u w : View) (name bytes : List ℕ) (numbers : Numbers) (wanted : List Ask) (target : Option (List ℕ)) (Next : Numbers → Files → Files → ℕ → List ℕ → Type 0) (result : ℕ) → Loaded v name 4096 bytes u → AnswersSettings bytes (Ok numbers) → EndsSaving u wanted target (SavesWhenDone (Next numbers)) result w → EndsSaving v (Load name ∷ wanted) target (SavesWhenDone (λ files after. AfterLoad Settings name (λ b. AfterReadingSettings b (λ n. Next n files after)) files)) result w
+pub after_settings_saving : (v u w : View) (name bytes : List ℕ) (numbers : Numbers) (wanted : List Ask) (target : Option (List ℕ)) (Next : Numbers → Files → Files → List Ask → ℕ → List ℕ → Type 0) (result : ℕ) → Loaded v name 4096 bytes u → AnswersSettings bytes (Ok numbers) → EndsSaving u wanted target (SavesWhenDone (Next numbers)) result w → EndsSaving v (Load name ∷ wanted) target (SavesWhenDone (λ files after. AfterLoad Settings name (λ b. AfterReadingSettings b (λ n. Next n files after)) files)) result w
 after_settings_saving v u w name bytes numbers wanted target Next result l is e =
     loaded_saving v u w name 4096 bytes wanted target (SavesWhenDone (λ files after. AfterLoad Settings name (λ b. AfterReadingSettings b (λ n. Next n files after)) files)) (SavesWhenDone (Next numbers)) result l e
-    (λ files told same after status text next. record {
+    (λ files told same after some status text next. record {
       kept = next.kept;
-      answers = loaded (subst (λ (b : List ℕ). length b ≤ 4096) same l.short) (some_settings numbers (subst (λ (b : List ℕ). AnswersSettings b (Ok numbers)) same is) next.answers);
+      answers = loaded some refl (subst (λ (b : List ℕ). length b ≤ 4096) same l.short) (some_settings numbers (subst (λ (b : List ℕ). AnswersSettings b (Ok numbers)) same is) next.answers);
     })
+    (λ files told same after all status text a.
+    let b = load_back Settings name bytes (λ b. AfterReadingSettings b (λ n. Next n files after)) files all status text l.short same a.answers in (b.0, b.1, record { kept = a.kept; answers = settings_back bytes numbers (λ n. Next n files after) b.0 status text is b.2 }))
 
 -- there is no memory
-pub memory_saving : (v w : View) (wanted : List Ask) (target : Option (List ℕ)) (Answers : Files → Files → ℕ → List ℕ → Type 0) → IsSame v w → EndsSaving v wanted target Answers 12 w
+pub memory_saving : (v w : View) (wanted : List Ask) (target : Option (List ℕ)) (Answers : Files → Files → List Ask → ℕ → List ℕ → Type 0) → IsSame v w → EndsSaving v wanted target Answers 12 w
 memory_saving v w wanted target Answers s =
-    saves_none v w wanted target (λ files status text. ⊥) Answers 12 (memory_ends v w wanted (λ files status text. ⊥) s) (λ files told status text no. absurd no)
+    record {
+      answer = λ no11 no12 calm files told. absurd (no12 refl);
+      cut = λ which room files told. inl (s.printed, s.files);
+      failed = λ e. absurd (omega arith);
+      grew = λ h. absurd (omega (arith, h, s.faults));
+      long = λ e. absurd (omega arith);
+      asked = asked_nothing v w wanted (AskedForSaving Answers) s.asked;
+      files = keeps_all target v.files w.files s.files;
+    }
 
 -- Saves
 
@@ -127,9 +165,9 @@ said_of bytes = codes "image " ++ decimal (length bytes) ++ codes "\n"
 part_none : (printed now : Option (List ℕ)) (bytes : List ℕ) → now ≡ printed → IsPart printed bytes now
 part_none printed now bytes e = record { front = []; rest = bytes; parts = refl; appends = e ∙ appended-none printed }
 
--- one is asked, which is all
-asked_one : (v w : View) (ask : Ask) → w.asked ≡ asks v.asked ask → Told v.asked (λ asked. (some : List Ask) × (rest : List Ask) × (ask ∷ [] ≡ some ++ rest) × (w.asked ≡ Some (asked ++ some)))
-asked_one v w ask e asked told = (ask ∷ [], [], refl, e ∙ ap (λ (o : Option (List Ask)). asks o ask) told)
+-- the save is asked, with which each answer begins
+asked_save : (v w : View) (name bytes : List ℕ) → w.asked ≡ asks v.asked (Save name) → AsksPart v (Save name ∷ []) (AskedForSaving (IsSaved name bytes)) w
+asked_save v w name bytes e = asked_first v w (Save name) [] (AskedForSaving (IsSaved name bytes)) e (λ files told all is. record { rest = []; parts = is.3.one_ask })
 
 -- the bytes were saved, and then their number was said, or could not be
 pub saved_ends : (v u w : View) (name bytes : List ℕ) (result : ℕ) → IsSavedTo v name bytes u → Says u (said_of bytes) 0 result w → EndsSaving v (Save name ∷ []) (Some name) (IsSaved name bytes) result w
@@ -137,12 +175,14 @@ saved_ends v u w name bytes result p s =
     record {
       answer = λ no11 no12 calm files told.
           let said = s.said no11 no12 in
-          (with_file files name bytes, said_of bytes, record { saved = refl; said = (said.0, refl) }, now files told, said.1 ∙ ap (λ (o : Option (List ℕ)). appended o (said_of bytes)) p.printed);
+          (with_file files name bytes, Save name ∷ [], said_of bytes, record { one_ask = refl; saved = refl; said = (said.0, refl) }, now files told, s.asked ∙ p.asked, said.1 ∙ ap (λ (o : Option (List ℕ)). appended o (said_of bytes)) p.printed);
       cut = λ which room files told. inr (record {
         after = with_file files name bytes;
+        some = Save name ∷ [];
         status = 0;
         text = said_of bytes;
-        answers = record { saved = refl; said = (refl, refl) };
+        answers = record { one_ask = refl; saved = refl; said = (refl, refl) };
+        asked = s.asked ∙ p.asked;
         part = part which;
         files = inl (now files told);
         tight = λ e h. s.tight e (p.room (length (said_of bytes)) h);
@@ -151,7 +191,7 @@ saved_ends v u w name bytes result p s =
       failed = λ e. subst (λ (n : ℕ). Rose n w.faults) p.faults (s.failed e).0;
       grew = λ h. elim (eqb_tells result 11) [ inl e ↦ e.1 | inr e ↦ absurd (omega (arith, h, s.same e.1, p.faults)) ];
       long = λ e. let no11 : result ≢ 11 = λ f. omega arith in let no12 : result ≢ 12 = λ f. omega arith in absurd (omega (arith, e, (s.said no11 no12).0));
-      asked = asked_one v w (Save name) (s.asked ∙ p.asked);
+      asked = asked_save v w name bytes (s.asked ∙ p.asked);
       files = inr (Some bytes, s.files ∙ p.files);
     }
   where
@@ -169,9 +209,11 @@ unsaved_ends v w name bytes held put printed asked rose =
       answer = λ no11 no12 calm files told. absurd (no11 refl);
       cut = λ which room files told. inr (record {
         after = with_file files name bytes;
+        some = Save name ∷ [];
         status = 0;
         text = said_of bytes;
-        answers = record { saved = refl; said = (refl, refl) };
+        answers = record { one_ask = refl; saved = refl; said = (refl, refl) };
+        asked = asked;
         part = part_none v.printed w.printed (said_of bytes) printed;
         files = inr (refl, printed, inr (held, put));
         tight = λ e. absurd (omega arith);
@@ -180,6 +222,6 @@ unsaved_ends v w name bytes held put printed asked rose =
       failed = λ e. rose;
       grew = λ h. refl;
       long = λ e. absurd (omega arith);
-      asked = asked_one v w (Save name) asked;
+      asked = asked_save v w name bytes asked;
       files = inr (held, put);
     }

@@ -1,4 +1,4 @@
--- What the top call answers, and what it prints with it.
+-- What the top call answers, what it prints with it, and what it has asked for by then: loads and saves, in their order.
 use Rattle.std.specs.Prelude.{◌≡◌, ◌≢◌, ℕ, ◌<◌, ◌≤◌, Bool, List, [], ◌∷◌, ◌++◌, length, codes, decimal, Option, Some, None, Ok, Err, if◌then◌else◌}
 use Rattle.std.specs.Str.{bytes_eq}
 use Rattle.mc_shelf.specs.Outside.{Files, content}
@@ -40,32 +40,36 @@ too_long_line Settings = codes "too long settings\n"
 abbrev pub IsLine : ℕ → List ℕ → ℕ → List ℕ → Type 0
 IsLine code line status text = (status ≡ code) × (text ≡ line)
 
--- A file is too long, or the answer goes on with its bytes.
-pub data AfterLoad (kind : FileKind) (name : List ℕ) (Next : List ℕ → ℕ → List ℕ → Type 0) (files : Files) (status : ℕ) (text : List ℕ) : Type 0 where
-  long_file : most kind < length (content files name) → IsLine 14 (too_long_line kind) status text → AfterLoad kind name Next files status text
-  loaded : length (content files name) ≤ most kind → Next (content files name) status text → AfterLoad kind name Next files status text
+-- A last step: it asks for nothing.
+abbrev pub AsksNothing : (ℕ → List ℕ → Type 0) → List Ask → ℕ → List ℕ → Type 0
+AsksNothing Answers asked status text = (asked ≡ []) × Answers status text
 
--- Bytes are no image, or the answer goes on with the image that they are.
-pub data AfterImage (bytes : List ℕ) (Next : ImageState → ℕ → List ℕ → Type 0) (status : ℕ) (text : List ℕ) : Type 0 where
-  no_image : (fault : ImageFault) → HasFirstFault bytes fault → IsLine 4 (image_line fault) status text → AfterImage bytes Next status text
-  an_image : (image : ImageState) → IsImage bytes image → Next image status text → AfterImage bytes Next status text
+-- A load is asked. The file is too long, and nothing more is asked, or the answer goes on with its bytes and asks for the rest.
+pub data AfterLoad (kind : FileKind) (name : List ℕ) (Next : List ℕ → List Ask → ℕ → List ℕ → Type 0) (files : Files) (asked : List Ask) (status : ℕ) (text : List ℕ) : Type 0 where
+  long_file : asked ≡ Load name ∷ [] → most kind < length (content files name) → IsLine 14 (too_long_line kind) status text → AfterLoad kind name Next files asked status text
+  loaded : (rest : List Ask) → asked ≡ Load name ∷ rest → length (content files name) ≤ most kind → Next (content files name) rest status text → AfterLoad kind name Next files asked status text
 
--- A text is no script, or the answer goes on with the script that it is.
-pub data AfterScript (bytes : List ℕ) (Next : ScriptState → ℕ → List ℕ → Type 0) (status : ℕ) (text : List ℕ) : Type 0 where
-  no_script : (fault : ScriptFault) → HasFirstFaultInScript bytes fault → IsLine 3 (script_line fault) status text → AfterScript bytes Next status text
-  a_script : (script : ScriptState) → IsText bytes script → Next script status text → AfterScript bytes Next status text
+-- Bytes are no image, and nothing more is asked, or the answer goes on with the image that they are.
+pub data AfterImage (bytes : List ℕ) (Next : ImageState → List Ask → ℕ → List ℕ → Type 0) (asked : List Ask) (status : ℕ) (text : List ℕ) : Type 0 where
+  no_image : (fault : ImageFault) → HasFirstFault bytes fault → asked ≡ [] → IsLine 4 (image_line fault) status text → AfterImage bytes Next asked status text
+  an_image : (image : ImageState) → IsImage bytes image → Next image asked status text → AfterImage bytes Next asked status text
 
--- Bytes are no settings, or the answer goes on with the settings that they are.
-pub data AfterReadingSettings (bytes : List ℕ) (Next : Numbers → ℕ → List ℕ → Type 0) (status : ℕ) (text : List ℕ) : Type 0 where
-  no_settings : (fault : SettingFault) → fault ≢ SettingMemory → AnswersSettings bytes (Err fault) → IsLine 10 (setting_line fault) status text → AfterReadingSettings bytes Next status text
-  some_settings : (numbers : Numbers) → AnswersSettings bytes (Ok numbers) → Next numbers status text → AfterReadingSettings bytes Next status text
+-- A text is no script, and nothing more is asked, or the answer goes on with the script that it is.
+pub data AfterScript (bytes : List ℕ) (Next : ScriptState → List Ask → ℕ → List ℕ → Type 0) (asked : List Ask) (status : ℕ) (text : List ℕ) : Type 0 where
+  no_script : (fault : ScriptFault) → HasFirstFaultInScript bytes fault → asked ≡ [] → IsLine 3 (script_line fault) status text → AfterScript bytes Next asked status text
+  a_script : (script : ScriptState) → IsText bytes script → Next script asked status text → AfterScript bytes Next asked status text
+
+-- Bytes are no settings, and nothing more is asked, or the answer goes on with the settings that they are.
+pub data AfterReadingSettings (bytes : List ℕ) (Next : Numbers → List Ask → ℕ → List ℕ → Type 0) (asked : List Ask) (status : ℕ) (text : List ℕ) : Type 0 where
+  no_settings : (fault : SettingFault) → fault ≢ SettingMemory → AnswersSettings bytes (Err fault) → asked ≡ [] → IsLine 10 (setting_line fault) status text → AfterReadingSettings bytes Next asked status text
+  some_settings : (numbers : Numbers) → AnswersSettings bytes (Ok numbers) → Next numbers asked status text → AfterReadingSettings bytes Next asked status text
 
 -- workspaces of 200 words, and at most 16 processes
 abbrev pub usual : Numbers
 usual = record { workspace_words = 200; processes = 16 }
 
 -- Where there is no settings file, the answer goes on with the usual settings; else the file is loaded and read.
-abbrev pub AfterSettings : Option (List ℕ) → (Numbers → ℕ → List ℕ → Type 0) → Files → ℕ → List ℕ → Type 0
+abbrev pub AfterSettings : Option (List ℕ) → (Numbers → List Ask → ℕ → List ℕ → Type 0) → Files → List Ask → ℕ → List ℕ → Type 0
 AfterSettings None Next files = Next usual
 AfterSettings (Some name) Next files = AfterLoad Settings name (λ bytes. AfterReadingSettings bytes Next) files
 
@@ -75,65 +79,66 @@ pub data AfterSource (source : List ℕ) (settings : Numbers) (journal : Bool) (
   runs : IsRunOf source settings script journal status text → AfterSource source settings journal script status text
 
 -- `run` under settings: the source is loaded, the script is loaded and read, the source is compiled, and its image runs
-abbrev pub IsRunUnder : List ℕ → List ℕ → Bool → Files → Numbers → ℕ → List ℕ → Type 0
+abbrev pub IsRunUnder : List ℕ → List ℕ → Bool → Files → Numbers → List Ask → ℕ → List ℕ → Type 0
 IsRunUnder source script journal files settings =
-    AfterLoad Source source (λ bytes. AfterLoad Script script (λ lines. AfterScript lines (AfterSource bytes settings journal)) files) files
+    AfterLoad Source source (λ bytes. AfterLoad Script script (λ lines. AfterScript lines (λ s. AsksNothing (AfterSource bytes settings journal s))) files) files
 
 -- `run`: the settings come first
-abbrev pub IsRunAnswer : List ℕ → List ℕ → Option (List ℕ) → Bool → Files → ℕ → List ℕ → Type 0
+abbrev pub IsRunAnswer : List ℕ → List ℕ → Option (List ℕ) → Bool → Files → List Ask → ℕ → List ℕ → Type 0
 IsRunAnswer source script settings journal files = AfterSettings settings (IsRunUnder source script journal files) files
 
 -- `exec`: the image is loaded and read, the script is loaded and read, and the image runs
-abbrev pub IsExecAnswer : List ℕ → List ℕ → Bool → Files → ℕ → List ℕ → Type 0
+abbrev pub IsExecAnswer : List ℕ → List ℕ → Bool → Files → List Ask → ℕ → List ℕ → Type 0
 IsExecAnswer image script journal files =
-    AfterLoad Image image (λ bytes. AfterImage bytes (λ i. AfterLoad Script script (λ lines. AfterScript lines (IsReport Foreign journal i)) files)) files
+    AfterLoad Image image (λ bytes. AfterImage bytes (λ i. AfterLoad Script script (λ lines. AfterScript lines (λ s. AsksNothing (IsReport Foreign journal i s))) files)) files
 
 -- Nothing is saved.
-pub record SavesNothing (Answers : Files → ℕ → List ℕ → Type 0) (files after : Files) (status : ℕ) (text : List ℕ) : Type 0 where
+pub record SavesNothing (Answers : Files → List Ask → ℕ → List ℕ → Type 0) (files after : Files) (asked : List Ask) (status : ℕ) (text : List ℕ) : Type 0 where
   pub kept : after ≡ files
-  pub answers : Answers files status text
+  pub answers : Answers files asked status text
 
 -- Nothing is saved unless the command is done.
-pub record SavesWhenDone (Answers : Files → Files → ℕ → List ℕ → Type 0) (files after : Files) (status : ℕ) (text : List ℕ) : Type 0 where
+pub record SavesWhenDone (Answers : Files → Files → List Ask → ℕ → List ℕ → Type 0) (files after : Files) (asked : List Ask) (status : ℕ) (text : List ℕ) : Type 0 where
   pub kept : status ≢ 0 → after ≡ files
-  pub answers : Answers files after status text
+  pub answers : Answers files after asked status text
 
 -- these files, of which the one of this name has these bytes
 abbrev pub with_file : Files → List ℕ → List ℕ → Files
 with_file files name bytes other = if bytes_eq other name then Some bytes else files other
 
 -- Bytes are saved under a name, and their number is said.
-pub record IsSaved (name bytes : List ℕ) (files after : Files) (status : ℕ) (text : List ℕ) : Type 0 where
+pub record IsSaved (name bytes : List ℕ) (files after : Files) (asked : List Ask) (status : ℕ) (text : List ℕ) : Type 0 where
+  pub one_ask : asked ≡ Save name ∷ []
   pub saved : after ≡ with_file files name bytes
   pub said : IsLine 0 (codes "image " ++ decimal (length bytes) ++ codes "\n") status text
 
--- A source is not of a form that is compiled today, or the bytes of its image are saved.
-pub data AfterCompiling (source : List ℕ) (settings : Numbers) (name : List ℕ) (files after : Files) (status : ℕ) (text : List ℕ) : Type 0 where
-  refused : ((form : Straight) → IsStraightSource source form → ⊥) → IsLine 15 (codes "not yet source\n") status text → AfterCompiling source settings name files after status text
-  saves : (image : ImageState) → CompiledFrom source settings.workspace_words settings.processes image → IsSaved name (image_bytes image) files after status text → AfterCompiling source settings name files after status text
+-- A source is not of a form that is compiled today, and nothing is asked, or the bytes of its image are saved.
+pub data AfterCompiling (source : List ℕ) (settings : Numbers) (name : List ℕ) (files after : Files) (asked : List Ask) (status : ℕ) (text : List ℕ) : Type 0 where
+  refused : ((form : Straight) → IsStraightSource source form → ⊥) → asked ≡ [] → IsLine 15 (codes "not yet source\n") status text → AfterCompiling source settings name files after asked status text
+  saves : (image : ImageState) → CompiledFrom source settings.workspace_words settings.processes image → IsSaved name (image_bytes image) files after asked status text → AfterCompiling source settings name files after asked status text
 
 -- `compile` under settings: the source is loaded and compiled, and its image is saved
-abbrev pub IsCompiledUnder : List ℕ → List ℕ → Numbers → Files → Files → ℕ → List ℕ → Type 0
+abbrev pub IsCompiledUnder : List ℕ → List ℕ → Numbers → Files → Files → List Ask → ℕ → List ℕ → Type 0
 IsCompiledUnder source image settings files after =
     AfterLoad Source source (λ bytes. AfterCompiling bytes settings image files after) files
 
 -- `compile`: the settings come first
-abbrev pub IsCompileAnswer : List ℕ → List ℕ → Option (List ℕ) → Files → Files → ℕ → List ℕ → Type 0
+abbrev pub IsCompileAnswer : List ℕ → List ℕ → Option (List ℕ) → Files → Files → List Ask → ℕ → List ℕ → Type 0
 IsCompileAnswer source image settings =
     SavesWhenDone (λ files after. AfterSettings settings (λ numbers. IsCompiledUnder source image numbers files after) files)
 
--- what is answered to a command, or where there is none, with these files before and after it
-abbrev pub AnswersTo : Option Order → Files → Files → ℕ → List ℕ → Type 0
-AnswersTo None = SavesNothing (λ files. IsLine 1 (codes "words\n"))
+-- what is answered to a command, or where there is none, with these files before and after it, and these loads and saves
+abbrev pub AnswersTo : Option Order → Files → Files → List Ask → ℕ → List ℕ → Type 0
+AnswersTo None = SavesNothing (λ files. AsksNothing (IsLine 1 (codes "words\n")))
 AnswersTo (Some (Run source script settings journal)) = SavesNothing (IsRunAnswer source script settings journal)
 AnswersTo (Some (Compile source image settings)) = IsCompileAnswer source image settings
 AnswersTo (Some (Exec image script journal)) = SavesNothing (IsExecAnswer image script journal)
-AnswersTo (Some (Check source)) = SavesNothing (λ files. IsLine 15 (codes "not yet words\n"))
-AnswersTo (Some (Generate n)) = SavesNothing (λ files. IsLine 15 (codes "not yet words\n"))
-AnswersTo (Some (OwnRun n)) = SavesNothing (λ files. IsLine 15 (codes "not yet words\n"))
+AnswersTo (Some (Check source)) = SavesNothing (λ files. AsksNothing (IsLine 15 (codes "not yet words\n")))
+AnswersTo (Some (Generate n)) = SavesNothing (λ files. AsksNothing (IsLine 15 (codes "not yet words\n")))
+AnswersTo (Some (OwnRun n)) = SavesNothing (λ files. AsksNothing (IsLine 15 (codes "not yet words\n")))
 
 -- what is answered to words
-abbrev pub IsAnswer : List (List ℕ) → Files → Files → ℕ → List ℕ → Type 0
+abbrev pub IsAnswer : List (List ℕ) → Files → Files → List Ask → ℕ → List ℕ → Type 0
 IsAnswer words = AnswersTo (command_of words)
 
 -- the load of a settings file, where there is one

@@ -1,5 +1,5 @@
 -- The outside at a moment, as far as it tells of itself, and what a part of a command does to it.
-use Rattle.std.specs.Prelude.{◌≡◌, ◌≢◌, ◌≤◌, ◌<◌, ◌-◌, ◌^◌, ◌%◌, ℕ, ◌+◌, ◌⊎◌, List, ◌++◌, length, Bool, Option, Some, None}
+use Rattle.std.specs.Prelude.{◌≡◌, ◌≢◌, ◌≤◌, ◌<◌, ◌-◌, ◌^◌, ◌%◌, ℕ, ◌+◌, ◌⊎◌, List, ◌++◌, length, Bool, Option, Some, None, option_map}
 use Rattle.std.specs.List.{flat_map}
 use Rattle.pdp_dev.specs.declared.entry.Entry.{Entry}
 use Rattle.mc_report.specs.Report.{line}
@@ -121,28 +121,53 @@ pub data Unloaded (v : View) (name : List ℕ) (most : ℕ) (line : List ℕ) (r
   no_memory : result ≡ 12 → IsSame v w → Unloaded v name most line result w
   is_long : (u : View) → IsLong v name most u → Says u line 14 result w → Unloaded v name most line result w
 
+-- Loads and saves in their order
+
+-- what was asked, and then these
+abbrev pub asks_all : Option (List Ask) → List Ask → Option (List Ask)
+asks_all asked more = option_map (λ before. before ++ more) asked
+
+-- All of these begin with some.
+pub record BeginsWith (all some : List Ask) : Type 0 where
+  pub rest : List Ask
+  pub parts : all ≡ some ++ rest
+
+-- Some were asked, in their order: a first part of what the command has. Where files are told, they are a first part too of
+-- what belongs to each answer with these files. So whatever fails, nothing is asked behind the place of that answer.
+pub record AsksPart (v : View) (wanted : List Ask) (BelongToAnswer : Files → List Ask → Type 0) (w : View) : Type 0 where
+  pub some : List Ask
+  pub asked : w.asked ≡ asks_all v.asked some
+  pub in_order : BeginsWith wanted some
+  pub none_behind : Told v.files (λ files. (all : List Ask) → BelongToAnswer files all → BeginsWith all some)
+
 -- Whole commands
 
--- A command was cut off on its way to an answer: a first part of the answer's text was printed. For want of memory it is one
--- of whole pieces, and room for the whole text was not told.
-pub record IsCut (v : View) (files : Files) (Answers : Files → ℕ → List ℕ → Type 0) (result : ℕ) (w : View) : Type 0 where
+-- What is asked belongs to an answer with these files.
+abbrev pub AskedFor : (Files → List Ask → ℕ → List ℕ → Type 0) → Files → List Ask → Type 0
+AskedFor Answers files asked = (status : ℕ) × (text : List ℕ) × Answers files asked status text
+
+-- A command was cut off on its way to an answer: all that belongs to it was asked, and a first part of its text was printed.
+-- For want of memory it is one of whole pieces, and room for the whole text was not told.
+pub record IsCut (v : View) (files : Files) (Answers : Files → List Ask → ℕ → List ℕ → Type 0) (result : ℕ) (w : View) : Type 0 where
+  pub some : List Ask
   pub status : ℕ
   pub text : List ℕ
-  pub answers : Answers files status text
+  pub answers : Answers files some status text
+  pub asked : w.asked ≡ asks_all v.asked some
   pub part : IsPart v.printed text w.printed
   pub tight : result ≡ 12 → HasRoom v.spare (length text) → ⊥
   pub pieces : result ≡ 12 → IsInPieces v.printed text w.printed
 
--- What a command answers, asks and prints. It asks for these in their order, and where they are told it answers a
--- status and prints a text as `Answers` says; 11 and 12 come where the outside fails and where memory is wanted, and then
--- a first part of such a text was printed, or nothing. A count that stands at its end tells nothing.
-pub record Ends (v : View) (wanted : List Ask) (Answers : Files → ℕ → List ℕ → Type 0) (result : ℕ) (w : View) : Type 0 where
-  pub answer : result ≢ 11 → result ≢ 12 → (result ≡ 14 → Rose v.faults w.faults → ⊥) → Told v.files (λ files. (text : List ℕ) × Answers files result text × (w.printed ≡ appended v.printed text))
+-- What a command answers, asks and prints. Where files are told it answers a status, has asked for some and prints a text
+-- as `Answers` says; 11 and 12 come where the outside fails and where memory is wanted, and then a first part of such a text
+-- was printed, or nothing. A count that stands at its end tells nothing.
+pub record Ends (v : View) (wanted : List Ask) (Answers : Files → List Ask → ℕ → List ℕ → Type 0) (result : ℕ) (w : View) : Type 0 where
+  pub answer : result ≢ 11 → result ≢ 12 → (result ≡ 14 → Rose v.faults w.faults → ⊥) → Told v.files (λ files. (some : List Ask) × (text : List ℕ) × Answers files some result text × (w.asked ≡ asks_all v.asked some) × (w.printed ≡ appended v.printed text))
   pub cut : (result ≡ 11) ⊎ (result ≡ 12) → v.faults < 2 ^ 64 - 1 → Told v.files (λ files. (w.printed ≡ v.printed) ⊎ IsCut v files Answers result w)
   pub failed : result ≡ 11 → Rose v.faults w.faults
   pub grew : v.faults < w.faults → result ≡ 11
   pub long : result ≡ 14 → Rose v.longs w.longs
-  pub asked : Told v.asked (λ asked. (some : List Ask) × (rest : List Ask) × (wanted ≡ some ++ rest) × (w.asked ≡ Some (asked ++ some)))
+  pub asked : AsksPart v wanted (AskedFor Answers) w
   pub files : w.files ≡ v.files
 
 -- Commands that may save a file
@@ -161,14 +186,20 @@ abbrev pub KeepsOthers : Option (List ℕ) → Option Files → Option Files →
 KeepsOthers None before after = after ≡ before
 KeepsOthers (Some name) before after = (after ≡ before) ⊎ ((held : Option (List ℕ)) × (after ≡ placed before name held))
 
--- A command was cut off on its way to an answer: a first part of the answer's text was printed, and the files are those of
--- the answer. Or the save failed by which it would have been done: then nothing was printed, and the others keep their files.
--- For want of memory the part is one of whole pieces, and room for the whole text was not told.
-pub record IsCutOff (v : View) (before : Files) (target : Option (List ℕ)) (Answers : Files → Files → ℕ → List ℕ → Type 0) (result : ℕ) (w : View) : Type 0 where
+-- What is asked belongs to an answer with these files before it.
+abbrev pub AskedForSaving : (Files → Files → List Ask → ℕ → List ℕ → Type 0) → Files → List Ask → Type 0
+AskedForSaving Answers files asked = (after : Files) × (status : ℕ) × (text : List ℕ) × Answers files after asked status text
+
+-- A command was cut off on its way to an answer: all that belongs to it was asked, a first part of its text was printed, and
+-- the files are those of the answer. Or the save failed by which it would have been done: then nothing was printed, and the
+-- others keep their files. For want of memory the part is one of whole pieces, and room for the whole text was not told.
+pub record IsCutOff (v : View) (before : Files) (target : Option (List ℕ)) (Answers : Files → Files → List Ask → ℕ → List ℕ → Type 0) (result : ℕ) (w : View) : Type 0 where
   pub after : Files
+  pub some : List Ask
   pub status : ℕ
   pub text : List ℕ
-  pub answers : Answers before after status text
+  pub answers : Answers before after some status text
+  pub asked : w.asked ≡ asks_all v.asked some
   pub part : IsPart v.printed text w.printed
   pub files : (w.files ≡ Some after) ⊎ ((status ≡ 0) × (w.printed ≡ v.printed) × KeepsOthers target v.files w.files)
   pub tight : result ≡ 12 → HasRoom v.spare (length text) → ⊥
@@ -176,11 +207,11 @@ pub record IsCutOff (v : View) (before : Files) (target : Option (List ℕ)) (An
 
 -- What a command answers, asks, prints and saves, as in `Ends`. `Answers` relates the files before and after. No file but
 -- the target's changes; and where the command is cut off before it comes to an answer, that one does not change either.
-pub record EndsSaving (v : View) (wanted : List Ask) (target : Option (List ℕ)) (Answers : Files → Files → ℕ → List ℕ → Type 0) (result : ℕ) (w : View) : Type 0 where
-  pub answer : result ≢ 11 → result ≢ 12 → (result ≡ 14 → Rose v.faults w.faults → ⊥) → Told v.files (λ files. (after : Files) × (text : List ℕ) × Answers files after result text × (w.files ≡ Some after) × (w.printed ≡ appended v.printed text))
+pub record EndsSaving (v : View) (wanted : List Ask) (target : Option (List ℕ)) (Answers : Files → Files → List Ask → ℕ → List ℕ → Type 0) (result : ℕ) (w : View) : Type 0 where
+  pub answer : result ≢ 11 → result ≢ 12 → (result ≡ 14 → Rose v.faults w.faults → ⊥) → Told v.files (λ files. (after : Files) × (some : List Ask) × (text : List ℕ) × Answers files after some result text × (w.files ≡ Some after) × (w.asked ≡ asks_all v.asked some) × (w.printed ≡ appended v.printed text))
   pub cut : (result ≡ 11) ⊎ (result ≡ 12) → v.faults < 2 ^ 64 - 1 → Told v.files (λ files. ((w.printed ≡ v.printed) × (w.files ≡ v.files)) ⊎ IsCutOff v files target Answers result w)
   pub failed : result ≡ 11 → Rose v.faults w.faults
   pub grew : v.faults < w.faults → result ≡ 11
   pub long : result ≡ 14 → Rose v.longs w.longs
-  pub asked : Told v.asked (λ asked. (some : List Ask) × (rest : List Ask) × (wanted ≡ some ++ rest) × (w.asked ≡ Some (asked ++ some)))
+  pub asked : AsksPart v wanted (AskedForSaving Answers) w
   pub files : KeepsOthers target v.files w.files

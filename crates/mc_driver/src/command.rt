@@ -3,7 +3,7 @@
 ghost use Rattle.std.specs.Prelude.{◌≡◌, ◌≢◌, Some, None, [], map, codes, string_bytes};
 ghost use Rattle.mc_words.specs.Commands.{order_of, command_of};
 ghost use Rattle.mc_driver.specs.Outside.{view, EndsSaving};
-ghost use Rattle.mc_driver.specs.Answer.{IsLine, SavesNothing, AnswersTo, IsAnswer, IsRun, asks_of, target_of};
+ghost use Rattle.mc_driver.specs.Answer.{AsksNothing, IsLine, SavesNothing, AnswersTo, IsAnswer, IsRun, asks_of, target_of};
 
 use crate::compile::compile;
 use crate::files::say;
@@ -15,7 +15,7 @@ use std::alloc::Global;
 
 // A command that is not built yet.
 fn not_yet<S: Shelf>(shelf: &mut S) -> u8
-    ensures ends { EndsSaving (view (S.files shelf.old) (S.printed shelf.old) (S.asked shelf.old) (S.spare shelf.old) (S.faults shelf.old) (S.longs shelf.old)) [] None (SavesNothing (λ files. IsLine 15 (codes "not yet words\n"))) result (view (S.files shelf.new) (S.printed shelf.new) (S.asked shelf.new) (S.spare shelf.new) (S.faults shelf.new) (S.longs shelf.new)) }
+    ensures ends { EndsSaving (view (S.files shelf.old) (S.printed shelf.old) (S.asked shelf.old) (S.spare shelf.old) (S.faults shelf.old) (S.longs shelf.old)) [] None (SavesNothing (λ files. AsksNothing (IsLine 15 (codes "not yet words\n")))) result (view (S.files shelf.new) (S.printed shelf.new) (S.asked shelf.new) (S.spare shelf.new) (S.faults shelf.new) (S.longs shelf.new)) }
     ensures own { result ≢ 8 }
 {
     say(shelf, b"not yet words\n", NOT_YET)

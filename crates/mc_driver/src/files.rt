@@ -104,7 +104,7 @@ pub fn load<S: Shelf>(
 /// The status of the answer, whose line is printed where it has one.
 pub fn load_image<S: Shelf>(alloc: Global, name: &str, shelf: &mut S) -> Result<Image, u8>
     ensures ok { IfOk result (λ image. (bytes : List ℕ) × Loaded (view (S.files shelf.old) (S.printed shelf.old) (S.asked shelf.old) (S.spare shelf.old) (S.faults shelf.old) (S.longs shelf.old)) name.now 131072 bytes (view (S.files shelf.new) (S.printed shelf.new) (S.asked shelf.new) (S.spare shelf.new) (S.faults shelf.new) (S.longs shelf.new)) × IsImage bytes image) }
-    ensures refused { IfErr result (λ status. Ends (view (S.files shelf.old) (S.printed shelf.old) (S.asked shelf.old) (S.spare shelf.old) (S.faults shelf.old) (S.longs shelf.old)) (Ask.Load name.now ∷ []) (AfterLoad FileKind.Image name.now (λ bytes. AfterImage bytes (λ image status text. ⊥))) status (view (S.files shelf.new) (S.printed shelf.new) (S.asked shelf.new) (S.spare shelf.new) (S.faults shelf.new) (S.longs shelf.new))) }
+    ensures refused { IfErr result (λ status. Ends (view (S.files shelf.old) (S.printed shelf.old) (S.asked shelf.old) (S.spare shelf.old) (S.faults shelf.old) (S.longs shelf.old)) (Ask.Load name.now ∷ []) (AfterLoad FileKind.Image name.now (λ bytes. AfterImage bytes (λ image asked status text. ⊥))) status (view (S.files shelf.new) (S.printed shelf.new) (S.asked shelf.new) (S.spare shelf.new) (S.faults shelf.new) (S.longs shelf.new))) }
 {
     let bytes = match load(alloc, name, FileKind::Image, shelf) {
         Ok(bytes) => bytes,
@@ -126,7 +126,7 @@ pub fn load_image<S: Shelf>(alloc: Global, name: &str, shelf: &mut S) -> Result<
 /// The status of the answer, whose line is printed where it has one.
 pub fn load_script<S: Shelf>(alloc: Global, name: &str, shelf: &mut S) -> Result<Script, u8>
     ensures ok { IfOk result (λ script. (text : List ℕ) × Loaded (view (S.files shelf.old) (S.printed shelf.old) (S.asked shelf.old) (S.spare shelf.old) (S.faults shelf.old) (S.longs shelf.old)) name.now 1048576 text (view (S.files shelf.new) (S.printed shelf.new) (S.asked shelf.new) (S.spare shelf.new) (S.faults shelf.new) (S.longs shelf.new)) × IsText text script) }
-    ensures refused { IfErr result (λ status. Ends (view (S.files shelf.old) (S.printed shelf.old) (S.asked shelf.old) (S.spare shelf.old) (S.faults shelf.old) (S.longs shelf.old)) (Ask.Load name.now ∷ []) (AfterLoad FileKind.Script name.now (λ text. AfterScript text (λ script status line. ⊥))) status (view (S.files shelf.new) (S.printed shelf.new) (S.asked shelf.new) (S.spare shelf.new) (S.faults shelf.new) (S.longs shelf.new))) }
+    ensures refused { IfErr result (λ status. Ends (view (S.files shelf.old) (S.printed shelf.old) (S.asked shelf.old) (S.spare shelf.old) (S.faults shelf.old) (S.longs shelf.old)) (Ask.Load name.now ∷ []) (AfterLoad FileKind.Script name.now (λ text. AfterScript text (λ script asked status line. ⊥))) status (view (S.files shelf.new) (S.printed shelf.new) (S.asked shelf.new) (S.spare shelf.new) (S.faults shelf.new) (S.longs shelf.new))) }
     ensures own { IfErr result (λ status. status ≢ 8) }
 {
     let text = match load(alloc, name, FileKind::Script, shelf) {
@@ -149,7 +149,7 @@ pub fn load_script<S: Shelf>(alloc: Global, name: &str, shelf: &mut S) -> Result
 /// The status of the answer, whose line is printed where it has one.
 pub fn load_settings<S: Shelf>(alloc: Global, name: &str, shelf: &mut S) -> Result<Settings, u8>
     ensures ok { IfOk result (λ settings. (bytes : List ℕ) × Loaded (view (S.files shelf.old) (S.printed shelf.old) (S.asked shelf.old) (S.spare shelf.old) (S.faults shelf.old) (S.longs shelf.old)) name.now 4096 bytes (view (S.files shelf.new) (S.printed shelf.new) (S.asked shelf.new) (S.spare shelf.new) (S.faults shelf.new) (S.longs shelf.new)) × AnswersSettings bytes (Ok (numbers_of settings))) }
-    ensures refused { IfErr result (λ status. Ends (view (S.files shelf.old) (S.printed shelf.old) (S.asked shelf.old) (S.spare shelf.old) (S.faults shelf.old) (S.longs shelf.old)) (Ask.Load name.now ∷ []) (AfterLoad FileKind.Settings name.now (λ bytes. AfterReadingSettings bytes (λ numbers status line. ⊥))) status (view (S.files shelf.new) (S.printed shelf.new) (S.asked shelf.new) (S.spare shelf.new) (S.faults shelf.new) (S.longs shelf.new))) }
+    ensures refused { IfErr result (λ status. Ends (view (S.files shelf.old) (S.printed shelf.old) (S.asked shelf.old) (S.spare shelf.old) (S.faults shelf.old) (S.longs shelf.old)) (Ask.Load name.now ∷ []) (AfterLoad FileKind.Settings name.now (λ bytes. AfterReadingSettings bytes (λ numbers asked status line. ⊥))) status (view (S.files shelf.new) (S.printed shelf.new) (S.asked shelf.new) (S.spare shelf.new) (S.faults shelf.new) (S.longs shelf.new))) }
     ensures own { IfErr result (λ status. status ≢ 8) }
 {
     let bytes = match load(alloc, name, FileKind::Settings, shelf) {

@@ -6,7 +6,7 @@ ghost use Rattle.pdp_machine.specs.Run.{machine_run};
 ghost use Rattle.mc_driver.specs.Outside.{view, Ends};
 ghost use Rattle.mc_driver.specs.Run.{status_of, ending_for, IsReport};
 ghost use Rattle.mc_words.specs.Settings.{numbers_of};
-ghost use Rattle.mc_driver.specs.Answer.{AfterSource, IsRunUnder, IsRunAnswer, IsExecAnswer, settings_load};
+ghost use Rattle.mc_driver.specs.Answer.{AsksNothing, AfterSource, IsRunUnder, IsRunAnswer, IsExecAnswer, settings_load};
 
 use crate::compile::image_of;
 use crate::drive::print_report;
@@ -31,7 +31,7 @@ fn play<S: Shelf>(
     journal: bool,
     shelf: &mut S,
 ) -> u8
-    ensures ends { Ends (view (S.files shelf.old) (S.printed shelf.old) (S.asked shelf.old) (S.spare shelf.old) (S.faults shelf.old) (S.longs shelf.old)) [] (λ files. IsReport origin journal image.now script.now) result (view (S.files shelf.new) (S.printed shelf.new) (S.asked shelf.new) (S.spare shelf.new) (S.faults shelf.new) (S.longs shelf.new)) }
+    ensures ends { Ends (view (S.files shelf.old) (S.printed shelf.old) (S.asked shelf.old) (S.spare shelf.old) (S.faults shelf.old) (S.longs shelf.old)) [] (λ files. AsksNothing (IsReport origin journal image.now script.now)) result (view (S.files shelf.new) (S.printed shelf.new) (S.asked shelf.new) (S.spare shelf.new) (S.faults shelf.new) (S.longs shelf.new)) }
     ensures stops { result ≢ 12 → IsSome (machine_run image.now script.now).machine.stop }
     ensures status { result ≢ 11 → result ≢ 12 → result ≡ status_of (ending_for origin (machine_run image.now script.now).machine) }
 {
@@ -58,7 +58,7 @@ fn run_source<S: Shelf>(
     shelf: &mut S,
 ) -> u8
     requires { length source.now ≤ 262144 }
-    ensures ends { Ends (view (S.files shelf.old) (S.printed shelf.old) (S.asked shelf.old) (S.spare shelf.old) (S.faults shelf.old) (S.longs shelf.old)) [] (λ files. AfterSource source.now (numbers_of settings) journal script.now) result (view (S.files shelf.new) (S.printed shelf.new) (S.asked shelf.new) (S.spare shelf.new) (S.faults shelf.new) (S.longs shelf.new)) }
+    ensures ends { Ends (view (S.files shelf.old) (S.printed shelf.old) (S.asked shelf.old) (S.spare shelf.old) (S.faults shelf.old) (S.longs shelf.old)) [] (λ files. AsksNothing (AfterSource source.now (numbers_of settings) journal script.now)) result (view (S.files shelf.new) (S.printed shelf.new) (S.asked shelf.new) (S.spare shelf.new) (S.faults shelf.new) (S.longs shelf.new)) }
     ensures own { result ≢ 8 }
 {
     match image_of(alloc, source, settings) {

@@ -5,7 +5,8 @@ use Rattle.mc_words.specs.Settings.{numbers_of}
 use Rattle.mc_driver.specs.declared.files.FileKind.TheVariants.{Settings}
 use Rattle.mc_driver.specs.Outside.{View, view, EndsSaving}
 use Rattle.mc_driver.specs.Answer.{AfterLoad, AfterReadingSettings, IsCompiledUnder, IsCompileAnswer, settings_load}
-use Rattle.mc_driver.proofs.Endings.{no_settings_end}
+use Rattle.mc_driver.proofs.Asking.{load_first}
+use Rattle.mc_driver.proofs.Endings.{refused_settings}
 use Rattle.mc_driver.proofs.Saving.{saves_none, after_settings_saving}
 use Rattle.mc_driver.proofs.compile.compile.Goals as goal
 
@@ -42,6 +43,6 @@ returns-in-Err g c =
     let name : List ℕ = c.in-Some.name.now in
     let is : option_map (λ t. t.now) c.args.settings ≡ Some name = ap (λ s. option_map (λ t. t.now) s) c.in-Some.is in
     subst (λ (o : Option (List ℕ)). EndsSaving v (settings_load o ++ Load source ∷ Save image ∷ []) (Some image) (IsCompileAnswer source image o) c.in-Err.status w) (sym is)
-    (saves_none v w (Load name ∷ Load source ∷ Save image ∷ []) (Some image) (λ files. AfterLoad Settings name (λ b. AfterReadingSettings b (λ n. IsCompiledUnder source image n files files)) files) (IsCompileAnswer source image (Some name)) c.in-Err.status
-    (no_settings_end v w name (Load source ∷ Save image ∷ []) (λ files n. IsCompiledUnder source image n files files) c.in-Err.status c.in-Err.ensures.refused)
-    (λ files told status text a. record { kept = λ other. refl; answers = a }))
+    (saves_none v w (Load name ∷ []) (Load source ∷ Save image ∷ []) (Some image) (AfterLoad Settings name (λ b. AfterReadingSettings b (λ n a s t. ⊥))) (IsCompileAnswer source image (Some name)) c.in-Err.status c.in-Err.ensures.refused
+    (λ files told some status text a. record { kept = λ other. refl; answers = refused_settings name (λ files n. IsCompiledUnder source image n files files) files some status text a })
+    (λ files told after all status text a. load_first Settings name (λ b. AfterReadingSettings b (λ n. IsCompiledUnder source image n files after)) files all status text a.answers))

@@ -4,6 +4,7 @@ use Rattle.mc_words.specs.Settings.{Numbers, numbers_of}
 use Rattle.mc_driver.specs.declared.files.FileKind.TheVariants.{Source}
 use Rattle.mc_driver.specs.Outside.{View, view, EndsSaving}
 use Rattle.mc_driver.specs.Answer.{SavesWhenDone, AfterCompiling, IsCompiledUnder}
+use Rattle.mc_driver.proofs.Asking.{load_first}
 use Rattle.mc_driver.proofs.Endings.{not_loaded}
 use Rattle.mc_driver.proofs.Saving.{saves_none, after_load_saving}
 use Rattle.mc_driver.proofs.compile.compile_under.Goals as goal
@@ -28,6 +29,7 @@ returns-in-Err g c =
     let source : List ℕ = c.args.source.now in
     let name : List ℕ = c.args.image.now in
     let settings : Numbers = numbers_of c.args.settings in
-    saves_none v w (Load source ∷ Save name ∷ []) (Some name) (λ files. IsCompiledUnder source name settings files files) (SavesWhenDone (IsCompiledUnder source name settings)) c.in-Err.status
-    (not_loaded v w Source source (Save name ∷ []) (λ files b. AfterCompiling b settings name files files) c.in-Err.status c.in-Err.ensures.refused)
-    (λ files told status text a. record { kept = λ other. refl; answers = a })
+    saves_none v w (Load source ∷ []) (Save name ∷ []) (Some name) (λ files. IsCompiledUnder source name settings files files) (SavesWhenDone (IsCompiledUnder source name settings)) c.in-Err.status
+    (not_loaded v w Source source [] (λ files b. AfterCompiling b settings name files files) c.in-Err.status c.in-Err.ensures.refused)
+    (λ files told some status text a. record { kept = λ other. refl; answers = a })
+    (λ files told after all status text a. load_first Source source (λ b. AfterCompiling b settings name files after) files all status text a.answers)

@@ -6,13 +6,13 @@ use Rattle.mc_driver.specs.declared.files.FileKind.TheVariants.{Script}
 use Rattle.mc_driver.specs.declared.ending.Origin.TheVariants.{Foreign}
 use Rattle.mc_driver.specs.Outside.{View, view}
 use Rattle.mc_driver.specs.Run.{IsReport}
-use Rattle.mc_driver.specs.Answer.{AfterLoad, AfterScript}
+use Rattle.mc_driver.specs.Answer.{AsksNothing, AfterLoad, AfterScript}
 use Rattle.mc_driver.proofs.Endings.{no_image_ends, after_image, no_script_ends, after_script}
 use Rattle.mc_driver.proofs.run.exec.Goals as goal
 
 pub returns-in-Err : goal.returns-in-Err
 returns-in-Err g c =
-    no_image_ends _ _ c.args.image.now (Load c.args.script.now ∷ []) (λ files i. AfterLoad Script c.args.script.now (λ lines. AfterScript lines (IsReport Foreign c.args.journal i)) files) _ c.in-Err.ensures.refused
+    no_image_ends _ _ c.args.image.now (Load c.args.script.now ∷ []) (λ files i. AfterLoad Script c.args.script.now (λ lines. AfterScript lines (λ s. AsksNothing (IsReport Foreign c.args.journal i s))) files) _ c.in-Err.ensures.refused
 
 pub returns-in-Err-load_script : goal.returns-in-Err-load_script
 returns-in-Err-load_script g c =
@@ -24,8 +24,8 @@ returns-in-Err-load_script g c =
     let journal : Bool = c.args.journal in
     let name : List ℕ = c.args.script.now in
     let bytes = c.in-Ok.ensures.ok in
-    after_image v u w c.args.image.now bytes.0 image (Load name ∷ []) (λ files i. AfterLoad Script name (λ lines. AfterScript lines (IsReport Foreign journal i)) files) _ bytes.1 bytes.2
-    (no_script_ends u w name (IsReport Foreign journal image) _ c.in-Err-load_script.ensures.refused)
+    after_image v u w c.args.image.now bytes.0 image (Load name ∷ []) (λ files i. AfterLoad Script name (λ lines. AfterScript lines (λ s. AsksNothing (IsReport Foreign journal i s))) files) _ bytes.1 bytes.2
+    (no_script_ends u w name (λ s. AsksNothing (IsReport Foreign journal image s)) _ c.in-Err-load_script.ensures.refused)
 
 pub returns : goal.returns
 returns g c =
@@ -40,5 +40,5 @@ returns g c =
     let name : List ℕ = c.args.script.now in
     let bytes = c.in-Ok.ensures.ok in
     let text = c.in-Ok-load_script.ensures.ok in
-    after_image v u w c.args.image.now bytes.0 image (Load name ∷ []) (λ files i. AfterLoad Script name (λ lines. AfterScript lines (IsReport Foreign journal i)) files) c.play.result bytes.1 bytes.2
-    (after_script u u2 w name text.0 script (IsReport Foreign journal image) c.play.result text.1 text.2 c.play.ensures.ends)
+    after_image v u w c.args.image.now bytes.0 image (Load name ∷ []) (λ files i. AfterLoad Script name (λ lines. AfterScript lines (λ s. AsksNothing (IsReport Foreign journal i s))) files) c.play.result bytes.1 bytes.2
+    (after_script u u2 w name text.0 script (λ s. AsksNothing (IsReport Foreign journal image s)) c.play.result text.1 text.2 c.play.ensures.ends)

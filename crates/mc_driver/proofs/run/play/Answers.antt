@@ -9,6 +9,7 @@ use Rattle.mc_driver.specs.declared.ending.Origin.{Origin}
 use Rattle.mc_shelf.specs.declared.shelf.PutFault.{PutFault}
 use Rattle.mc_driver.specs.Outside.{View, view, Breaks}
 use Rattle.mc_driver.specs.Run.{status_of, ending_for, text_of, IsReport}
+use Rattle.mc_driver.specs.Answer.{AsksNothing}
 use Rattle.mc_driver.proofs.Endings.{report_ends, breaks_ends, tight_ends}
 use Rattle.mc_driver.proofs.Headline.{plain_status}
 use Rattle.mc_driver.proofs.run.play.Goals as goal
@@ -32,8 +33,8 @@ returns-in-Ok-print_report-clause-ends g c =
     let ends : c.in-Ok-print_report.ending ≡ ending_for origin run.machine = c.in-Ok-print_report.ensures.ending ∙ ap (λ (a : Advanced). ending_for origin a.machine) whole in
     let status_is : c.status_of.result ≡ status_of (ending_for origin run.machine) = c.status_of.ensures ∙ ap status_of ends in
     let plain = plain_status (ending_for origin run.machine) in
-    report_ends v w (λ files. IsReport origin journal image script) text c.status_of.result (λ e. plain.0 (sym status_is ∙ e)) (λ e. plain.1 (sym status_is ∙ e)) (λ e. plain.2 (sym status_is ∙ e)) c.in-Ok-print_report.ensures.ok
-    (λ files told. record { stops = stops; text_is = text_is; status_is = status_is })
+    report_ends v w (λ files. AsksNothing (IsReport origin journal image script)) text c.status_of.result (λ e. plain.0 (sym status_is ∙ e)) (λ e. plain.1 (sym status_is ∙ e)) (λ e. plain.2 (sym status_is ∙ e)) c.in-Ok-print_report.ensures.ok
+    (λ files told. (refl, record { stops = stops; text_is = text_is; status_is = status_is }))
 
 pub returns-in-Ok-print_report-clause-stops : goal.returns-in-Ok-print_report-clause-stops
 unfolding machine_run
@@ -62,8 +63,8 @@ returns-in-Err-Failed-clause-ends g c =
     let stops : IsSome run.machine.stop = subst (λ (a : Advanced). IsSome a.machine.stop) whole (run_stops m c.in-Ok.ensures.timed) in
     let text : List ℕ = text_of origin journal (advances (m.limit + 1) m) in
     let text_is : text ≡ text_of origin journal run = ap (λ (a : Advanced). text_of origin journal a) whole in
-    breaks_ends v w (λ files. IsReport origin journal image script) text (status_of (ending_for origin run.machine)) (subst (λ (f : PutFault). Breaks v [] text f w) c.in-Err-Failed.field-0-is c.in-Err-Failed.ensures.refused)
-    (λ files told. record { stops = stops; text_is = text_is; status_is = refl })
+    breaks_ends v w (λ files. AsksNothing (IsReport origin journal image script)) text (status_of (ending_for origin run.machine)) (subst (λ (f : PutFault). Breaks v [] text f w) c.in-Err-Failed.field-0-is c.in-Err-Failed.ensures.refused)
+    (λ files told. (refl, record { stops = stops; text_is = text_is; status_is = refl }))
 
 pub returns-in-Err-Failed-clause-stops : goal.returns-in-Err-Failed-clause-stops
 unfolding machine_run
@@ -86,5 +87,5 @@ returns-clause-ends g c =
     let stops : IsSome run.machine.stop = subst (λ (a : Advanced). IsSome a.machine.stop) whole (run_stops m c.in-Ok.ensures.timed) in
     let text : List ℕ = text_of origin journal (advances (m.limit + 1) m) in
     let text_is : text ≡ text_of origin journal run = ap (λ (a : Advanced). text_of origin journal a) whole in
-    tight_ends v w (λ files. IsReport origin journal image script) text (status_of (ending_for origin run.machine)) (subst (λ (f : PutFault). Breaks v [] text f w) c.in-Err-Memory.field-0-is c.in-Err-Memory.ensures.refused)
-    (λ files told. record { stops = stops; text_is = text_is; status_is = refl })
+    tight_ends v w (λ files. AsksNothing (IsReport origin journal image script)) text (status_of (ending_for origin run.machine)) (subst (λ (f : PutFault). Breaks v [] text f w) c.in-Err-Memory.field-0-is c.in-Err-Memory.ensures.refused)
+    (λ files told. (refl, record { stops = stops; text_is = text_is; status_is = refl }))

@@ -7,7 +7,8 @@ use Rattle.mc_straight.specs.Form.{program_of, size_of}
 use Rattle.mc_driver.specs.declared.ending.Origin.TheVariants.{Compiled as CompiledOrigin}
 use Rattle.mc_driver.specs.Outside.{View, view}
 use Rattle.mc_driver.specs.Run.{IsReport}
-use Rattle.mc_driver.specs.Answer.{AfterSource, no_source, runs}
+use Rattle.mc_driver.specs.Answer.{AsksNothing, AfterSource, no_source, runs}
+use Rattle.mc_driver.proofs.Asking.{begins_none}
 use Rattle.mc_driver.proofs.Endings.{says_ends, ends_as}
 use Rattle.mc_driver.proofs.Headline.{run_of_program, own_status}
 use Rattle.mc_driver.proofs.run.run_source.Goals as goal
@@ -23,13 +24,17 @@ returns-in-Ok-clause-ends g c =
     let source : List ℕ = c.args.source.now in
     let settings : Numbers = numbers_of c.args.settings in
     let made : CompiledFrom source settings.workspace_words settings.processes image = c.in-Ok.ensures.ok in
-    ends_as v w [] [] (λ files. IsReport CompiledOrigin journal image script) (λ files. AfterSource source settings journal script) c.play.result c.play.ensures.ends
-    (λ files told status text report. runs (record {
-      image = image;
-      compiled = made;
-      report = report;
-      meaning = run_of_program (program_of made.form) (record { workspace = settings.workspace_words; processes = settings.processes; size = size_of made.accepted.tokens }) image script made.compiled report.stops (omega (arith, c.args.settings.workspace_least));
-    }))
+    ends_as v w [] [] (λ files. AsksNothing (IsReport CompiledOrigin journal image script)) (λ files. AsksNothing (AfterSource source settings journal script)) c.play.result c.play.ensures.ends
+    (λ files told some status text report. (
+      report.0,
+      runs (record {
+        image = image;
+        compiled = made;
+        report = report.1;
+        meaning = run_of_program (program_of made.form) (record { workspace = settings.workspace_words; processes = settings.processes; size = size_of made.accepted.tokens }) image script made.compiled report.1.stops (omega (arith, c.args.settings.workspace_least));
+      }),
+    ))
+    (λ files told all status text a. begins_none all)
 
 pub returns-in-Ok-clause-own : goal.returns-in-Ok-clause-own
 returns-in-Ok-clause-own g c e =
@@ -41,5 +46,5 @@ returns-in-Ok-clause-own g c e =
 
 pub returns-in-Err-NotYet-clause-ends : goal.returns-in-Err-NotYet-clause-ends
 returns-in-Err-NotYet-clause-ends g c =
-    says_ends _ _ [] (λ files. AfterSource c.args.source.now (numbers_of c.args.settings) c.args.journal c.args.script.now) _ 15 _ (λ e. omega arith) c.say.ensures.says
-    (λ files told. no_source (c.in-Err-NotYet.ensures.not_yet (cc)) (refl, refl))
+    says_ends _ _ [] (λ files. AsksNothing (AfterSource c.args.source.now (numbers_of c.args.settings) c.args.journal c.args.script.now)) _ 15 _ (λ e. omega arith) c.say.ensures.says
+    (λ files told. (refl, no_source (c.in-Err-NotYet.ensures.not_yet (cc)) (refl, refl)))

@@ -4,13 +4,13 @@ use Rattle.mc_words.specs.Settings.{Numbers, numbers_of}
 use Rattle.mc_script.specs.Script.{ScriptState}
 use Rattle.mc_driver.specs.declared.files.FileKind.TheVariants.{Source, Script}
 use Rattle.mc_driver.specs.Outside.{View, view, Ends}
-use Rattle.mc_driver.specs.Answer.{AfterLoad, AfterScript, AfterSource}
+use Rattle.mc_driver.specs.Answer.{AsksNothing, AfterLoad, AfterScript, AfterSource}
 use Rattle.mc_driver.proofs.Endings.{not_loaded, after_load, no_script_ends, after_script}
 use Rattle.mc_driver.proofs.run.run_under.Goals as goal
 
 pub returns-in-Err-clause-ends : goal.returns-in-Err-clause-ends
 returns-in-Err-clause-ends g c =
-    not_loaded _ _ Source c.args.source.now (Load c.args.script.now ∷ []) (λ files bytes. AfterLoad Script c.args.script.now (λ lines. AfterScript lines (AfterSource bytes (numbers_of c.args.settings) c.args.journal)) files) _ c.in-Err.ensures.refused
+    not_loaded _ _ Source c.args.source.now (Load c.args.script.now ∷ []) (λ files bytes. AfterLoad Script c.args.script.now (λ lines. AfterScript lines (λ s. AsksNothing (AfterSource bytes (numbers_of c.args.settings) c.args.journal s))) files) _ c.in-Err.ensures.refused
 
 pub returns-in-Err-load_script-clause-ends : goal.returns-in-Err-load_script-clause-ends
 returns-in-Err-load_script-clause-ends g c =
@@ -22,8 +22,8 @@ returns-in-Err-load_script-clause-ends g c =
     let journal : Bool = c.args.journal in
     let settings : Numbers = numbers_of c.args.settings in
     let name : List ℕ = c.args.script.now in
-    after_load v u w Source c.args.source.now bytes (Load name ∷ []) (λ files b. AfterLoad Script name (λ lines. AfterScript lines (AfterSource b settings journal)) files) _ c.in-Ok.ensures.ok
-    (no_script_ends u w name (AfterSource bytes settings journal) _ c.in-Err-load_script.ensures.refused)
+    after_load v u w Source c.args.source.now bytes (Load name ∷ []) (λ files b. AfterLoad Script name (λ lines. AfterScript lines (λ s. AsksNothing (AfterSource b settings journal s))) files) _ c.in-Ok.ensures.ok
+    (no_script_ends u w name (λ s. AsksNothing (AfterSource bytes settings journal s)) _ c.in-Err-load_script.ensures.refused)
 
 pub returns-clause-ends : goal.returns-clause-ends
 returns-clause-ends g c =
@@ -38,7 +38,7 @@ returns-clause-ends g c =
     let settings : Numbers = numbers_of c.args.settings in
     let name : List ℕ = c.args.script.now in
     let text = c.in-Ok-load_script.ensures.ok in
-    let ran : Ends u2 [] (λ files. AfterSource bytes settings journal script) c.run_source.result w =
-    subst (λ (b : List ℕ). Ends u2 [] (λ files. AfterSource b settings journal script) c.run_source.result w) c.as_slice.ensures.value c.run_source.ensures.ends in
-    after_load v u w Source c.args.source.now bytes (Load name ∷ []) (λ files b. AfterLoad Script name (λ lines. AfterScript lines (AfterSource b settings journal)) files) c.run_source.result c.in-Ok.ensures.ok
-    (after_script u u2 w name text.0 script (AfterSource bytes settings journal) c.run_source.result text.1 text.2 ran)
+    let ran : Ends u2 [] (λ files. AsksNothing (AfterSource bytes settings journal script)) c.run_source.result w =
+    subst (λ (b : List ℕ). Ends u2 [] (λ files. AsksNothing (AfterSource b settings journal script)) c.run_source.result w) c.as_slice.ensures.value c.run_source.ensures.ends in
+    after_load v u w Source c.args.source.now bytes (Load name ∷ []) (λ files b. AfterLoad Script name (λ lines. AfterScript lines (λ s. AsksNothing (AfterSource b settings journal s))) files) c.run_source.result c.in-Ok.ensures.ok
+    (after_script u u2 w name text.0 script (λ s. AsksNothing (AfterSource bytes settings journal s)) c.run_source.result text.1 text.2 ran)
