@@ -1,3 +1,4 @@
 pub mod Quiet
 pub mod Simulation
 pub mod Whole
+pub mod Refused

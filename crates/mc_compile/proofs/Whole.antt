@@ -1,6 +1,6 @@
 -- For each list of moments from the image's opening there is a run that tracks it.
 use Rattle.std.proofs.Common.{◌≡◌, ◌≢◌, ℕ, zero, suc, ◌+◌, ◌*◌, ◌-◌, ◌/◌, ◌%◌, ◌<◌, ◌≤◌, true, List, [], ◌∷◌, length, Some, refl, sym, ap, ◌∙◌, subst, arith, length-append, ◌⊎◌, inl, inr}
-use Rattle.std.specs.Prelude.{slice_index, slice_get, Contains, map}
+use Rattle.std.specs.Prelude.{Result, Ok, Err, IfOk, slice_index, slice_get, Contains, map}
 use Rattle.std.specs.List.{flat_map}
 use Rattle.std.proofs.lemmas.Bool.{false≢true}
 use Rattle.tracking.specs.Simulation.{weaker, Simulated, tracked}
@@ -19,10 +19,16 @@ use Rattle.mc_meaning.specs.Exclusion.{IsInside, as_foot, as_member, Exclusive}
 use Rattle.mc_straight.specs.declared.form.Put.{Put}
 use Rattle.mc_tree.specs.declared.place.Place.{Place}
 use Rattle.mc_tree.specs.declared.token.Token.{Token}
+use Rattle.mc_tree.specs.declared.tree.Tree.{Tree}
 use Rattle.mc_tree.specs.Sources.{Spells}
+use Rattle.mc_tree.specs.Trees.{tokens_of}
+use Rattle.mc_tree.specs.Programs.{IsTreeOf}
+use Rattle.mc_tree.specs.Unique.{tokens_of-one_tree}
+use Rattle.mc_image.specs.Image.{ImageState}
+use Rattle.mc_straight.specs.Laws.{length-tokens_of, slice_get-variables}
 use Rattle.mc_tree.specs.Laws.{Spells-unique}
-use Rattle.mc_straight.specs.Form.{Straight, IsStraight, program_of, size_of}
-use Rattle.mc_compile.specs.Code.{leave_code, puts_code, code_of, word_bytes, image_of}
+use Rattle.mc_straight.specs.Form.{Straight, IsStraight, IsStraightSource, program_of, size_of}
+use Rattle.mc_compile.specs.Code.{leave_code, puts_code, code_of, word_bytes, image_of, IsImageOf}
 use Rattle.mc_compile.specs.Tracks.{Bounds, opened, IsAtRest, Agrees, Tracked, Compiled, CompiledFrom}
 use Rattle.mc_compile.proofs.Quiet.{quiet_opening}
 use Rattle.mc_compile.proofs.Simulation.{Phase, Before, Inside, Behind, Done, config_at, process_at, AreKnown, IsActing, IsWaiting, IsRelated, follows}
@@ -169,25 +175,29 @@ module _ (form : Straight) (bounds : Bounds) (one : 1 ≤ bounds.processes) wher
       weaker (Simulated happens IsPossible (steps program) IsStep earns (IsRelated form) (opened (image_of (code_of form))) (opening_config program)) (Tracked program bounds (image_of (code_of form))) moments
       (λ done ups s. record { is_run = s.is_run; agrees = agrees _ _ _ s.related }) t
 
--- What the form of the tokens gives
+-- What the form of the tree gives
 
 known_each : (form : Straight) (puts : List Put) → ((k : ℕ) (put : Put) → slice_get puts k ≡ Some put → slice_get form.variables put.variable ≡ Some put.port) → AreKnown form puts
 known_each form [] each = tt
 known_each form (put ∷ puts) each = (each 0 put refl, known_each form puts (λ k other h. each (suc k) other h))
 
-pub known_variables : (tokens : List Token) (form : Straight) → IsStraight tokens form → AreKnown form form.puts
-known_variables tokens form s = known_each form form.puts (λ k put h. (s.statements k put h).port)
+known_variables : (tree : Tree) (form : Straight) → IsStraight tree form → AreKnown form form.puts
+known_variables tree form s = known_each form form.puts (slice_get-variables tree form s)
 
-pub has_room : (tokens : List Token) (form : Straight) → IsStraight tokens form → 4096 + length (code_of form) ≤ 28672
-has_room tokens form s = omega (arith, length-code_of form, s.size, s.whole)
+pub has_room : (tree : Tree) (form : Straight) → 12 * length (tokens_of tree) ≤ 20000 → IsStraight tree form → 4096 + length (code_of form) ≤ 28672
+has_room tree form size s = omega (arith, length-code_of form, size, length-tokens_of tree form s)
 
 -- a source of the form, and the image of its code
-pub compiled_from : (tokens : List Token) (end : Place) (source : List ℕ) (form : Straight) (workspace processes : ℕ) → 1 ≤ processes → Spells tokens end source → IsStraight tokens form → CompiledFrom source workspace processes (image_of (code_of form))
-compiled_from tokens end source form workspace processes one spelled straight =
+pub compiled_from : (tokens : List Token) (end : Place) (source : List ℕ) (tree : Tree) (workspace processes : ℕ) (image : ImageState) → 1 ≤ processes → Spells tokens end source → IsTreeOf tree tokens → 12 * length tokens ≤ 20000 → IsImageOf tree image → CompiledFrom source workspace processes image
+compiled_from tokens end source tree workspace processes image one spelled parsed size made =
+    let room = has_room tree made.form (omega (arith, size, ap length parsed.tokens_are)) made.straight in
+    let bounds : Bounds = record { workspace = workspace; processes = processes; size = size_of tokens } in
+    let priority = made.straight.straight.priority in
     record {
-      form = form;
-      accepted = record { tokens = tokens; end = end; spelled = spelled; straight = straight };
-      compiled = compiled form (record { workspace = workspace; processes = processes; size = size_of tokens }) one (straight.head.least, straight.head.most) (has_room tokens form straight) (known_variables tokens form straight);
+      form = made.form;
+      accepted = record { tokens = tokens; end = end; spelled = spelled; tree = tree; parsed = parsed; size = size; straight = made.straight };
+      compiled = subst (λ (i : ImageState). Compiled (program_of made.form) bounds i) (sym made.is)
+          (compiled made.form bounds one (priority.least, priority.most) room (known_variables tree made.form made.straight));
     }
 
 pub blocks_fit : (content : List ℕ) → 1 ≤ length content → 8192 + length content ≤ 57344 → AreBlocks (record { address = 0o50; bytes = 1 ∷ 0 ∷ [] } ∷ record { address = 0o20000; bytes = content } ∷ [])
@@ -201,6 +211,21 @@ blocks_fit content some room =
 pub length-bytes : (words : List ℕ) → length (flat_map word_bytes words) ≡ 2 * length words
 length-bytes words = length-word_bytes words
 
--- no source of the form has tokens that are not of it
-pub only_tokens : (tokens others : List Token) (end last : Place) (source : List ℕ) (form : Straight) → Spells tokens end source → Spells others last source → IsStraight others form → IsStraight tokens form
-only_tokens tokens others end last source form s t h = subst (λ (l : List Token). IsStraight l form) (sym (Spells-unique tokens others end last source s t).0) h
+-- What a source of the form has, where its tokens are these
+
+only_tokens : (tokens others : List Token) (end last : Place) (source : List ℕ) → Spells tokens end source → Spells others last source → others ≡ tokens
+only_tokens tokens others end last source s t = sym (Spells-unique tokens others end last source s t).0
+
+-- it has a tree
+pub its_tree : (tokens : List Token) (end : Place) (source : List ℕ) (form : Straight) → Spells tokens end source → (h : IsStraightSource source form) → IsTreeOf h.tree tokens
+its_tree tokens end source form s h = subst (λ (l : List Token). IsTreeOf h.tree l) (only_tokens tokens h.tokens end h.end source s h.spelled) h.parsed
+
+-- and the tree is of the form
+pub its_form : (tokens : List Token) (end : Place) (source : List ℕ) (tree : Tree) (form : Straight) → Spells tokens end source → IsTreeOf tree tokens → IsStraightSource source form → IsStraight tree form
+its_form tokens end source tree form s t h =
+    let other = its_tree tokens end source form s h in
+    subst (λ (u : Tree). IsStraight u form) (tokens_of-one_tree h.tree tree (other.tokens_are ∙ sym t.tokens_are)) h.straight
+
+pub if_ok : {T E : Type 0} (P Q : T → Type 0) (r : Result T E) → ((x : T) → P x → Q x) → IfOk r P → IfOk r Q
+if_ok P Q (Ok x) f h = f x h
+if_ok P Q (Err e) f h = h

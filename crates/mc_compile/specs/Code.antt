@@ -1,9 +1,10 @@
 -- The words of a straight-line program, and its image.
-use Rattle.std.specs.Prelude.{ℕ, ◌*◌, ◌/◌, ◌%◌, List, [], ◌∷◌, ◌++◌}
+use Rattle.std.specs.Prelude.{◌≡◌, ℕ, ◌*◌, ◌/◌, ◌%◌, List, [], ◌∷◌, ◌++◌}
 use Rattle.std.specs.List.{flat_map}
 use Rattle.mc_image.specs.Image.{ImageState}
+use Rattle.mc_tree.specs.declared.tree.Tree.{Tree}
 use Rattle.mc_straight.specs.declared.form.Put.{Put}
-use Rattle.mc_straight.specs.Form.{Straight, address_of}
+use Rattle.mc_straight.specs.Form.{Straight, IsStraight, address_of}
 
 -- MOV #word, @#address
 abbrev pub move_code : ℕ → ℕ → List ℕ
@@ -37,3 +38,9 @@ image_of words =
       blocks = record { address = 0o50; bytes = 1 ∷ 0 ∷ [] } ∷ record { address = 0o20000; bytes = flat_map word_bytes words } ∷ [];
       start = 0o20000;
     }
+
+-- the image of the code of a tree of the straight-line form
+pub record IsImageOf (tree : Tree) (image : ImageState) : Type 0 where
+  pub form : Straight
+  pub straight : IsStraight tree form
+  pub is : image ≡ image_of (code_of form)

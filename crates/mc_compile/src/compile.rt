@@ -1,13 +1,17 @@
 // The compiler's one public call.
 
-ghost use Rattle.std.specs.Prelude.{◌≡◌, ◌≤◌, IfOk, IsErrOf, length};
-ghost use Rattle.mc_straight.specs.Form.{Straight, IsStraightSource};
+ghost use Rattle.std.specs.Prelude.{◌≡◌, ◌*◌, ◌≤◌, IfOk, IsErrOf, length};
+ghost use Rattle.mc_tree.specs.Trees.{tokens_of};
+ghost use Rattle.mc_straight.specs.Form.{Straight, IsStraight, IsStraightSource};
+ghost use Rattle.mc_compile.specs.Code.{IsImageOf};
 ghost use Rattle.mc_compile.specs.Tracks.{CompiledFrom};
 
 use crate::emit::{code, image};
 use mc_image::image::Image;
+use mc_parse::{ParseFault, parse};
 use mc_scan::{ScanFault, scan};
 use mc_straight::read::straight_line;
+use mc_tree::tree::Tree;
 use mc_word::bytes::Memory;
 use mc_word::word::Settings;
 use std::alloc::Global;
@@ -56,7 +60,21 @@ pub fn compile(alloc: Global, source: &[u8], settings: Settings) -> Result<Image
     if tokens.len() > MOST_TOKENS {
         return Err(Refusal::NotYet);
     }
-    let Some(form) = straight_line(alloc, tokens)? else {
+    match parse(alloc, tokens, scanned.end) {
+        Ok(tree) => compile_tree(alloc, &tree),
+        Err(ParseFault::Unexpected(_)) => Err(Refusal::NotYet),
+        Err(ParseFault::TooDeep(_)) => Err(Refusal::NotYet),
+        Err(ParseFault::Memory) => Err(Refusal::Memory),
+    }
+}
+
+/// The image of a tree.
+fn compile_tree(alloc: Global, tree: &Tree) -> Result<Image, Refusal>
+    requires { 12 * length (tokens_of tree.now) ≤ 20000 }
+    ensures ok { IfOk result (λ i. IsImageOf tree.now i) }
+    ensures not_yet { IsErrOf result Refusal.NotYet → (form : Straight) → IsStraight tree.now form → ⊥ }
+{
+    let Some(form) = straight_line(alloc, tree)? else {
         return Err(Refusal::NotYet);
     };
     let words = code(alloc, &form)?;

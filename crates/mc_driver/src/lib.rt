@@ -8,6 +8,8 @@ mod ending;
 mod files;
 mod refusal;
 mod run;
+#[cfg(test)]
+mod source_tests;
 mod status;
 #[cfg(test)]
 mod tests;

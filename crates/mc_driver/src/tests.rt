@@ -17,6 +17,25 @@ const PRINTS_A_B: &str =
 const PUNCHES_A: &str =
     "device module m [4]; var PPB [177556B]: char; begin PPB (* one byte *) := 'A' end m.";
 
+/// With a text of one byte, an octal character and a character, and a comment behind two of the statements.
+const WRITES: &str = "(* two devices *)
+device module writer [7];
+var
+  printer [177566B]: char;
+  punch [177556B]: char;
+begin
+  printer := \"H\";   (* is printed *)
+  punch := 102C;    (* the letter B *)
+  printer := 'i'    (* comes too early, and is lost *)
+end writer.
+";
+
+/// With a blank or a comment behind each token, and before the first. A comment ends at the first `*)`.
+const PRINTS_A_WITH_COMMENTS: &str =
+    "(* a *)device(**)module(* b *)m(* [3] *)[ (* 7 *)04B(* C *)]\t;
+(* c; *)var(* (* *)TPB\r[ 177566B(* octal *) ](* d *):(* bits *)char(* e *);
+(* f *)begin(* g *)TPB (* h *) :=(* 'B' *)'A'(* ; *)end(* n *)m(* i *).(* j *)";
+
 /// What is printed for `PRINTS_A`, where `#` stands for digits.
 const PRINTED_A: &str = "print 101\ninstructions #\nend\n";
 
@@ -118,6 +137,164 @@ fn answers_sources_and_scripts(rt: HostRuntime) -> Result<(), Fail> {
         assert!(rt;
             are_loads(shelf.asked(), &["a", "b"]),
             "at {source} under {script}"
+        );
+    }
+    Ok(())
+}
+
+#[test]
+fn runs_each_source_of_the_form(rt: HostRuntime) -> Result<(), Fail> {
+    let alloc = rt.alloc();
+    let run = words(alloc, "run a b")?;
+    for (source, text) in [
+        (
+            WRITES,
+            "print 110\npunch 102\nlost printer 151\ninstructions 7\nend\n",
+        ),
+        (PRINTS_A_WITH_COMMENTS, "print 101\ninstructions 5\nend\n"),
+        // Both variables are the one register, whose second byte comes too early.
+        (
+            "device module m [5]; var p [177566B]: char; q [177566B]: char;
+             begin p := 'A'; q := 'B' end m.",
+            "print 101\nlost printer 102\ninstructions 6\nend\n",
+        ),
+        // Names whose letters are of another case are other names, and p is never assigned.
+        (
+            "device module M [6]; var p [177566B]: char; m [177556B]: char; Send [177566B]: char;
+             begin m := 'A'; Send := 'A' end M.",
+            "punch 101\nprint 101\ninstructions 6\nend\n",
+        ),
+    ] {
+        let mut shelf = shelf(alloc, source.as_bytes(), b"", &[])?;
+        assert_eq!(rt; modula(alloc, &run, &mut shelf), 0, "at {source}");
+        assert_eq!(rt; shelf.printed(), text.as_bytes(), "at {source}");
+    }
+    Ok(())
+}
+
+/// `PRINTS_A` with other words in the place of these.
+fn with_words(alloc: Global, words: &str, others: &str) -> Result<String, Fail> {
+    let Some((before, after)) = PRINTS_A.split_once(words) else {
+        return Err("no such words")?;
+    };
+    Ok(format!(in alloc; "{before}{others}{after}")?)
+}
+
+#[test]
+fn runs_no_other_source(rt: HostRuntime) -> Result<(), Fail> {
+    let alloc = rt.alloc();
+    let run = words(alloc, "run a b")?;
+    for (words, others) in [
+        // the priority is no number from 4 to 7 alone
+        ("[4]", "[3]"),
+        ("[4]", "[8]"),
+        ("[4]", "[+4]"),
+        ("[4]", "[(4)]"),
+        ("[4]", "[4 + 0]"),
+        ("[4]", "[4 * 1]"),
+        ("[4]", "[4 = 4]"),
+        // no device module
+        ("device module m [4]", "module m"),
+        // the declarations are no one list of registers
+        ("[177566B]", "[177564B]"),
+        ("[177566B]", "[(177566B)]"),
+        (" [177566B]", ""),
+        ("TPB [177566B]", "p [177566B], TPB [177556B]"),
+        ("char;", "bits;"),
+        ("char;", "array 0: 1 of char;"),
+        ("char;", "char; x: char;"),
+        ("char;", "char; var x [177556B]: char;"),
+        ("char;", "char; const x = 1;"),
+        ("var", "const x = 1; var"),
+        ("char;", "char; procedure p; begin end p;"),
+        ("var TPB [177566B]: char;", ""),
+        // the names are not all different, or one is a standard name
+        ("char;", "char; TPB [177556B]: char;"),
+        ("char;", "char; m [177556B]: char;"),
+        ("char;", "char; send [177556B]: char;"),
+        (
+            PRINTS_A,
+            "device module char [4]; var TPB [177566B]: char; begin TPB := 'A' end char.",
+        ),
+        ("end m", "end n"),
+        ("end m", "end TPB"),
+        // the statements are no assignments of characters alone to variables alone
+        ("begin TPB := 'A'", ""),
+        ("TPB := 'A'", ""),
+        ("'A'", "'A';"),
+        ("TPB := 'A'", "; TPB := 'A'"),
+        ("'A'", "65"),
+        ("'A'", "'AB'"),
+        ("'A'", "TPB"),
+        ("'A'", "('A')"),
+        ("'A'", "-'A'"),
+        ("'A'", "'A' + 'A'"),
+        ("'A'", "'A' and 'A'"),
+        ("'A'", "'A' = 'A'"),
+        ("TPB :=", "TPC :="),
+        ("TPB :=", "m :="),
+        ("TPB :=", "TPB[0] :="),
+        ("TPB :=", "TPB.x :="),
+        ("TPB := 'A'", "TPB"),
+        ("TPB := 'A'", "if true then TPB := 'A' end"),
+        // no program
+        ("'A'", "'A' TPB := 'B'"),
+        ("TPB [177566B]: char;", ""),
+        ("m.", "m"),
+        ("m.", "m. x"),
+    ] {
+        let source = with_words(alloc, words, others)?;
+        let mut shelf = shelf(alloc, source.as_bytes(), b"", &[])?;
+        assert_eq!(rt; modula(alloc, &run, &mut shelf), 15, "at {source}");
+        assert_eq!(rt;
+            shelf.printed(),
+            b"not yet source\n".as_slice(),
+            "at {source}"
+        );
+    }
+    Ok(())
+}
+
+#[test]
+fn runs_at_most_1666_tokens(rt: HostRuntime) -> Result<(), Fail> {
+    let alloc = rt.alloc();
+    let run = words(alloc, "run a b")?;
+    // 11 + 7 * 1 + 4 * 412 tokens are 1666, and one statement more is one too many. The instructions are 1 + 412 + 3.
+    for (more, status, last) in [
+        (411, 0, "\ninstructions 416\nend\n"),
+        (412, 15, "not yet source\n"),
+    ] {
+        let statements = "; TPB := 'B'".repeat(alloc, more)?;
+        let source = with_words(
+            alloc,
+            " end",
+            format!(in alloc; "{statements} end")?.as_str(),
+        )?;
+        let mut shelf = shelf(alloc, source.as_bytes(), b"", &[])?;
+        assert_eq!(rt; modula(alloc, &run, &mut shelf), status, "at {more}");
+        let ends = shelf.printed().strip_suffix(last.as_bytes()).is_some();
+        assert!(rt; ends, "at {more}");
+    }
+    Ok(())
+}
+
+#[test]
+fn runs_no_deep_source(rt: HostRuntime) -> Result<(), Fail> {
+    let alloc = rt.alloc();
+    let run = words(alloc, "run a b")?;
+    // The statement has depth 1, and each parenthesis is one deeper: behind 62 the character has depth 64, behind 63 it is
+    // too deep, and of 64 the last is.
+    for count in [62, 63, 64usize] {
+        let opening = "(".repeat(alloc, count)?;
+        let closing = ")".repeat(alloc, count)?;
+        let value = format!(in alloc; "{opening}'A'{closing}")?;
+        let source = with_words(alloc, "'A'", value.as_str())?;
+        let mut shelf = shelf(alloc, source.as_bytes(), b"", &[])?;
+        assert_eq!(rt; modula(alloc, &run, &mut shelf), 15, "at {count}");
+        assert_eq!(rt;
+            shelf.printed(),
+            b"not yet source\n".as_slice(),
+            "at {count}"
         );
     }
     Ok(())

@@ -1,1 +1,10 @@
+pub mod Notes
+pub mod ExpressionNames
+pub mod StatementNames
+pub mod DeclarationNames
+pub mod Names
+pub mod Standard
+pub mod Scopes
+pub mod Namings
+pub mod First
 pub mod Program

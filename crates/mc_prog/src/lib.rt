@@ -1,2 +1,6 @@
-// The resolved program: definitions, and no code yet.
+// The resolved program, and the scopes of names.
 #![tactic(auto)]
+
+pub mod first;
+pub mod scoped;
+pub mod standard;

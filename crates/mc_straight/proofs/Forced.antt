@@ -1,33 +1,48 @@
--- What the tokens of a straight-line form force: one place for each piece, so one form at most.
-use Rattle.std.proofs.Common.{◌≡◌, ℕ, zero, suc, ◌+◌, ◌*◌, ◌<◌, ◌≤◌, List, [], ◌∷◌, ◌++◌, length, get_or, Option, Some, None, ◌⊎◌, inl, inr, sym, ap, subst, ◌∙◌, refl, arith}
-use Rattle.std.specs.Prelude.{slice_get, codes, Bool, bytes_eq, IsTrue}
+-- What each part of the form forces.
+use Rattle.std.proofs.Common.{◌≡◌, ◌≢◌, ℕ, zero, suc, ◌+◌, ◌<◌, ◌≤◌, List, [], ◌∷◌, Option, Some, None, refl, sym, ap, ◌∙◌, subst, arith, length, get_or, false, true, take, drop, ◌-◌, add-one}
+use Rattle.std.specs.Prelude.{Bool, bytes_eq}
+use mathlib.Core.Bool.{not}
 use Rattle.std.specs.Cmp.Lexicographic.{same_text}
-use Rattle.std.proofs.lemmas.Option.{slice_get-get_or, slice_get_past}
-use Rattle.std.proofs.lemmas.List.{same_lists}
-use Rattle.mc_tree.specs.declared.token.Token.{Token}
-use Rattle.mc_tree.specs.declared.token.Kind.{Kind}
-use Rattle.mc_tree.specs.declared.token.Kind.TheVariants.{Reserved as ReservedKind, Name, Number, Char, Text as TextKind, Symbol as SymbolKind}
-use Rattle.mc_tree.specs.declared.token.Reserved.TheVariants.{BeginWord}
+use Rattle.std.proofs.lemmas.Bool.{false≢true}
+use Rattle.std.proofs.Math.Seq.{drop-cons}
+use Rattle.std.proofs.Math.ListN.{drop_of_length-le}
+use Rattle.std.proofs.lemmas.List.{length-map, take_rest}
+use Rattle.std.proofs.lemmas.Option.{slice_get_within}
+use Rattle.std.proofs.lemmas.Slice.Eq.{bytes_eq-Decides}
+use Rattle.std.specs.Prelude.{MatchOption, slice_get, map}
+use Rattle.mc_tree.specs.declared.tree.Bracket.{Bracket}
+use Rattle.mc_tree.specs.declared.tree.Id.{Id}
+use Rattle.mc_tree.specs.declared.tree.Var.{Var}
+use Rattle.mc_tree.specs.declared.tree.VarId.{VarId}
+use Rattle.mc_tree.specs.declared.statement.Statement.{Statement}
 use Rattle.pdp_dev.specs.declared.entry.Port.{Port}
 use Rattle.pdp_dev.specs.declared.entry.Port.TheVariants.{Printer, Punch}
 use Rattle.mc_straight.specs.declared.form.Put.{Put}
-use Rattle.mc_straight.specs.Form.{Straight, IsStraight, HasHead, HasPart, IsStatement, address_of, kind_at, name_of}
-use Rattle.mc_straight.specs.Pieces.{AreVariables, AreParts, AreNumbers, HasFrame, AreStatements}
+use Rattle.mc_straight.specs.Alone.{IsNumber, IsAssigned}
+use Rattle.mc_straight.specs.Form.{address_of, name_of, AreOwn, HasAddress, IsOwn, IsPriority, IsPut, IsVariable}
+use Rattle.mc_straight.proofs.Leaves.{same_number, same_name}
 
-pub spells_char : (k : Option Kind) → name_of k ≡ codes "char" → k ≡ Some (Name (codes "char"))
-spells_char None e = cc
-spells_char (Some (Name name)) e = ap (λ (n : List ℕ). Some (Name n)) e
-spells_char (Some (ReservedKind w)) e = cc
-spells_char (Some (Number w)) e = cc
-spells_char (Some (Char b)) e = cc
-spells_char (Some (TextKind t)) e = cc
-spells_char (Some (SymbolKind y)) e = cc
+pub no_priority : (b : Bracket) (n : ℕ) → IsNumber b.value n → (4 ≤ n → n ≤ 7 → ⊥) → (p : ℕ) → IsPriority b p → ⊥
+no_priority b n h none p k =
+    let e = same_number b.value p n k.number h in
+    none (omega (arith, e, k.least)) (omega (arith, e, k.most))
 
-pub is_char_there : (b : Bool) (k : Option Kind) (name : List ℕ) → b ≡ bytes_eq name (codes "char") → name ≡ name_of k → (IsTrue b → k ≡ Some (Name (codes "char"))) × (k ≡ Some (Name (codes "char")) → IsTrue b)
-is_char_there b k name e n = (
-  λ t. spells_char k (sym n ∙ same_text name (codes "char") (sym (cc (t, e)))),
-  λ h. rw (e, n, h) refl,
-)
+pub address_from : (id : VarId) (bracket : Bracket) (o : Option ℕ) → id.address ≡ Some bracket → MatchOption o ((n : ℕ) → IsNumber bracket.value n → ⊥) (λ n. IsNumber bracket.value n) → MatchOption o ((n : ℕ) → HasAddress id n → ⊥) (λ n. HasAddress id n)
+address_from id b None e h = λ n k.
+    let same : k.bracket ≡ b = cc (sym k.is ∙ e) in
+    h n (subst (λ (x : Bracket). IsNumber x.value n) same k.number)
+address_from id b (Some n) e h = record { bracket = b; is = e; number = h }
+
+same_address : (id : VarId) (m n : ℕ) → HasAddress id m → HasAddress id n → m ≡ n
+same_address id m n h k =
+    let same : h.bracket ≡ k.bracket = cc (sym h.is ∙ k.is) in
+    same_number k.bracket.value m n (subst (λ (x : Bracket). IsNumber x.value m) same h.number) k.number
+
+pub no_address : (var : Var) → ((n : ℕ) → HasAddress var.first n → ⊥) → (p : Port) → IsVariable var p → ⊥
+no_address var none p k = none (address_of p) k.address
+
+pub no_register : (var : Var) (n : ℕ) → HasAddress var.first n → ((p : Port) → address_of p ≢ n) → (p : Port) → IsVariable var p → ⊥
+no_register var n h none p k = none p (same_address var.first (address_of p) n k.address h)
 
 address_of-same : (p q : Port) → address_of p ≡ address_of q → p ≡ q
 address_of-same Printer Printer e = refl
@@ -35,125 +50,65 @@ address_of-same Printer Punch e = absurd (omega arith)
 address_of-same Punch Printer e = absurd (omega arith)
 address_of-same Punch Punch e = refl
 
-part_same : (tokens : List Token) (i : ℕ) (p q : Port) → HasPart tokens i p → HasPart tokens i q → p ≡ q
-part_same tokens i p q h k = address_of-same p q (cc (h.number, k.number))
+pub same_port : (var : Var) (p q : Port) → IsVariable var p → IsVariable var q → p ≡ q
+same_port var p q h k = address_of-same p q (same_address var.first _ _ h.address k.address)
 
--- no variable stands where `begin` does
-no_part : (tokens : List Token) (i : ℕ) (p : Port) → kind_at tokens i ≡ Some (ReservedKind BeginWord) → HasPart tokens i p → ⊥
-no_part tokens i p b h = cc (b, h.name)
+-- a place past the end has no name
 
-not_fewer : (tokens : List Token) (variables : List Port) (form : Straight) → AreVariables tokens variables → IsStraight tokens form → length form.variables < length variables → ⊥
-not_fewer tokens variables form h s l =
-    let n : ℕ = length form.variables in
-    no_part tokens (8 + 7 * n) (get_or variables n Printer) s.begin
-    (h.parts.parts n (get_or variables n Printer) (slice_get-get_or variables n Printer l))
+pub no_name_past : (vars : List Var) (i : ℕ) (name : List ℕ) → length vars ≤ i → slice_get (map name_of vars) i ≢ Some name
+no_name_past [] i name l e = cc
+no_name_past (v ∷ vars) zero name l e = absurd (omega arith)
+no_name_past (v ∷ vars) (suc i) name l e = no_name_past vars i name (omega arith) e
 
-not_more : (tokens : List Token) (variables : List Port) (form : Straight) → AreVariables tokens variables → IsStraight tokens form → length variables < length form.variables → ⊥
-not_more tokens variables form h s l =
-    let n : ℕ = length variables in
-    h.last (get_or form.variables n Printer) (s.parts n (get_or form.variables n Printer) (slice_get-get_or form.variables n Printer l))
+pub name_there : (vars : List Var) (i : ℕ) (v d : Var) → v ≡ get_or vars i d → i < length vars → slice_get (map name_of vars) i ≡ Some (name_of v)
+name_there [] i v d e l = absurd (omega arith)
+name_there (w ∷ vars) zero v d e l = ap (λ (x : Var). Some (name_of x)) (sym e)
+name_there (w ∷ vars) (suc i) v d e l = name_there vars i v d e (omega arith)
 
-pub variables_forced : (tokens : List Token) (variables : List Port) (form : Straight) → AreVariables tokens variables → IsStraight tokens form → form.variables ≡ variables
-variables_forced tokens variables form h s =
-    let fewer : length form.variables < length variables → ⊥ = not_fewer tokens variables form h s in
-    let more : length variables < length form.variables → ⊥ = not_more tokens variables form h s in
-    let same : length form.variables ≡ length variables = omega (arith, fewer, more) in
-    same_lists form.variables variables same
-    (λ k d l.
-    part_same tokens (8 + 7 * k) (get_or form.variables k d) (get_or variables k d)
-    (s.parts k (get_or form.variables k d) (slice_get-get_or form.variables k d l))
-    (h.parts.parts k (get_or variables k d) (slice_get-get_or variables k d (omega (arith, same, l)))))
+pub other_text : (x y : List ℕ) → false ≡ bytes_eq x y → x ≡ y → ⊥
+other_text x y e h = false≢true (e ∙ (bytes_eq-Decides x y).1 h)
 
--- a list with one more at its end
-pushed : {X : Type 0} (xs : List X) (y x : X) (j : ℕ) → slice_get (xs ++ y ∷ []) j ≡ Some x → (slice_get xs j ≡ Some x) ⊎ ((j ≡ length xs) × (x ≡ y))
-pushed [] y x zero e = inr (refl, cc)
-pushed [] y x (suc j) e = cc
-pushed (z ∷ xs) y x zero e = inl e
-pushed (z ∷ xs) y x (suc j) e =
-    elim (pushed xs y x j e) [ inl a ↦ inl a | inr a ↦ inr (ap suc a.0, a.1) ]
+-- the name that stands there is another one
+pub no_name_there : (vars : List Var) (i : ℕ) (v d : Var) (spelled name : List ℕ) → v ≡ get_or vars i d → i < length vars → spelled ≡ name_of v → false ≡ bytes_eq spelled name → slice_get (map name_of vars) i ≢ Some name
+no_name_there vars i v d spelled name e l s b h =
+    let there = name_there vars i v d e l in
+    let same : name_of v ≡ name = cc (there, h) in
+    other_text spelled name b (s ∙ same)
 
-pub parts_more : (tokens : List Token) (variables : List Port) (port : Port) → AreParts tokens variables → HasPart tokens (8 + 7 * length variables) port → AreParts tokens (variables ++ port ∷ [])
-parts_more tokens variables port h new =
-    record {
-      parts = λ j p e.
-          elim (pushed variables port p j e) [
-            | inl a ↦ h.parts j p a
-            | inr a ↦ subst (λ (n : ℕ). HasPart tokens (8 + 7 * n) p) (sym a.0) (subst (λ (q : Port). HasPart tokens (8 + 7 * length variables) q) (sym a.1) new)
-          ];
-    }
+pub is_name_there : (vars : List Var) (i : ℕ) (v d : Var) (spelled name : List ℕ) → v ≡ get_or vars i d → i < length vars → spelled ≡ name_of v → true ≡ bytes_eq spelled name → slice_get (map name_of vars) i ≡ Some name
+is_name_there vars i v d spelled name e l s b = name_there vars i v d e l ∙ ap (λ (n : List ℕ). Some n) (sym s ∙ same_text spelled name b)
 
-pub statements_more : (tokens : List Token) (variables : List Port) (puts : List Put) (put : Put) → AreStatements tokens variables puts → IsStatement tokens variables (9 + 7 * length variables + 4 * length puts) put → AreStatements tokens variables (puts ++ put ∷ [])
-statements_more tokens variables puts put h new =
-    record {
-      statements = λ k p e.
-          elim (pushed puts put p k e) [
-            | inl a ↦ h.statements k p a
-            | inr a ↦ subst (λ (n : ℕ). IsStatement tokens variables (9 + 7 * length variables + 4 * n) p) (sym a.0) (subst (λ (q : Put). IsStatement tokens variables (9 + 7 * length variables + 4 * length puts) q) (sym a.1) new)
-          ];
-    }
+pub within_names : (first : Var) (more : List Var) (i : ℕ) (name : List ℕ) → slice_get (map name_of (first ∷ more)) i ≡ Some name → i < length more + 1
+within_names first more i name e = omega (arith, slice_get_within (map name_of (first ∷ more)) i name e, length-map more name_of)
 
--- no variable stands past the end
-pub no_part_past : (tokens : List Token) (i : ℕ) (p : Port) → length tokens ≤ i → HasPart tokens i p → ⊥
-no_part_past tokens i p l h =
-    let e : kind_at tokens i ≡ None = rw (slice_get_past tokens i l) refl in
-    cc (e, h.name)
+pub no_put : (vars : List Var) (variables : List Port) (s : Statement) (id : Id) (byte : ℕ) (spelled : List ℕ) → IsAssigned s id byte → spelled ≡ id.text → ((i : ℕ) → slice_get (map name_of vars) i ≢ Some spelled) → (p : Put) → IsPut vars variables s p → ⊥
+no_put vars variables s id byte spelled h e none p k =
+    let same : k.name ≡ id = same_name s k.name id p.byte byte k.assigned h in
+    none p.variable (k.declared ∙ ap (λ (j : Id). Some j.text) same ∙ ap (λ (n : List ℕ). Some n) (sym e))
 
-pub no_statements : (tokens : List Token) (variables : List Port) (puts : List Put) (k : ℕ) → k < length puts → ((put : Put) → IsStatement tokens variables (9 + 7 * length variables + 4 * k) put → ⊥) → AreStatements tokens variables puts → ⊥
-no_statements tokens variables puts k l none h =
-    let d : Put = record { variable = 0; port = Printer; byte = 0 } in
-    none (get_or puts k d) (h.statements k (get_or puts k d) (slice_get-get_or puts k d l))
+-- the names from a place on are the name there and those behind it
 
-numbers_of : (tokens : List Token) (variables : List Port) (form : Straight) → form.variables ≡ variables → IsStraight tokens form → AreNumbers (length tokens) (length variables) (length form.puts)
-numbers_of tokens variables form e s =
-    subst (λ (v : List Port). AreNumbers (length tokens) (length v) (length form.puts)) e
-    (record { size = s.size; some_variable = s.some_variable; some_put = s.some_put; whole = s.whole })
+names_from : (vars : List Var) (i : ℕ) (v d : Var) (spelled : List ℕ) → v ≡ get_or vars i d → i < length vars → spelled ≡ name_of v → map name_of (drop i vars) ≡ spelled ∷ map name_of (take (length vars - (i + 1)) (drop (i + 1) vars))
+names_from vars i v d spelled e l s =
+    ap (map name_of) (drop-cons vars i d l) ∙ ap (λ (n : List ℕ). n ∷ map name_of (drop (suc i) vars)) (ap name_of (sym e) ∙ sym s) ∙ ap (λ (k : ℕ). spelled ∷ map name_of (drop k vars)) (sym (add-one i)) ∙ ap (λ (x : List Var). spelled ∷ map name_of x) (sym (take_rest vars (i + 1)))
 
-frame_of : (tokens : List Token) (variables : List Port) (form : Straight) → form.variables ≡ variables → IsStraight tokens form → HasFrame tokens (length variables) (length form.puts)
-frame_of tokens variables form e s =
-    subst (λ (v : List Port). HasFrame tokens (length v) (length form.puts)) e
-    (record { begin = s.begin; between = record { between = s.between }; tail = s.tail; own = s.own })
+pub own_head : (vars : List Var) (i : ℕ) (v d : Var) (spelled : List ℕ) → v ≡ get_or vars i d → i < length vars → spelled ≡ name_of v → AreOwn (map name_of (drop i vars)) → IsOwn spelled (map name_of (take (length vars - (i + 1)) (drop (i + 1) vars)))
+own_head vars i v d spelled e l s h = (subst (λ (n : List (List ℕ)). AreOwn n) (names_from vars i v d spelled e l s) h).0
 
-statements_of : (tokens : List Token) (variables : List Port) (form : Straight) → form.variables ≡ variables → IsStraight tokens form → AreStatements tokens variables form.puts
-statements_of tokens variables form e s =
-    subst (λ (v : List Port). AreStatements tokens v form.puts) e (record { statements = s.statements })
+pub own_rest : (vars : List Var) (i : ℕ) (v d : Var) (spelled : List ℕ) → v ≡ get_or vars i d → i < length vars → spelled ≡ name_of v → AreOwn (map name_of (drop i vars)) → AreOwn (map name_of (drop (i + 1) vars))
+own_rest vars i v d spelled e l s h = subst (λ (x : List Var). AreOwn (map name_of x)) (take_rest vars (i + 1)) (subst (λ (n : List (List ℕ)). AreOwn n) (names_from vars i v d spelled e l s) h).1
 
-pub numbers_forced : (tokens : List Token) (variables : List Port) (n : ℕ) (form : Straight) → n ≡ length variables → AreVariables tokens variables → IsStraight tokens form → AreNumbers (length tokens) n (length form.puts)
-numbers_forced tokens variables n form e h s =
-    subst (λ (m : ℕ). AreNumbers (length tokens) m (length form.puts)) (sym e)
-    (numbers_of tokens variables form (variables_forced tokens variables form h s) s)
+pub own_from : (vars : List Var) (i : ℕ) (v d : Var) (spelled : List ℕ) → v ≡ get_or vars i d → i < length vars → spelled ≡ name_of v → IsOwn spelled (map name_of (take (length vars - (i + 1)) (drop (i + 1) vars))) → AreOwn (map name_of (drop (i + 1) vars)) → AreOwn (map name_of (drop i vars))
+own_from vars i v d spelled e l s head rest =
+    subst (λ (n : List (List ℕ)). AreOwn n) (sym (names_from vars i v d spelled e l s)) (head, subst (λ (x : List Var). AreOwn (map name_of x)) (sym (take_rest vars (i + 1))) rest)
 
-count_forced : (tokens : List Token) (variables : List Port) (n count : ℕ) (form : Straight) → n ≡ length variables → AreVariables tokens variables → AreNumbers (length tokens) n count → IsStraight tokens form → length form.puts ≡ count
-count_forced tokens variables n count form e h numbers s =
-    let forced : AreNumbers (length tokens) n (length form.puts) = numbers_forced tokens variables n form e h s in
-    omega (arith, forced.whole, numbers.whole)
+pub own_past : (vars : List Var) (i : ℕ) → length vars ≤ i → AreOwn (map name_of (drop i vars))
+own_past [] i l = subst (λ (x : List Var). AreOwn (map name_of x)) (sym (drop_of_length-le [] l)) tt
+own_past (v ∷ vars) i l = subst (λ (x : List Var). AreOwn (map name_of x)) (sym (drop_of_length-le (v ∷ vars) l)) tt
 
-pub frame_forced : (tokens : List Token) (variables : List Port) (n count : ℕ) (form : Straight) → n ≡ length variables → AreVariables tokens variables → AreNumbers (length tokens) n count → IsStraight tokens form → HasFrame tokens n count
-frame_forced tokens variables n count form e h numbers s =
-    subst (λ (m : ℕ). HasFrame tokens m count) (sym e)
-    (subst (λ (k : ℕ). HasFrame tokens (length variables) k) (count_forced tokens variables n count form e h numbers s)
-    (frame_of tokens variables form (variables_forced tokens variables form h s) s))
+negated : (b : Bool) → false ≡ not b → true ≡ b
+negated true e = refl
+negated false e = cc
 
-pub not_straight : (tokens : List Token) (variables : List Port) (n count : ℕ) → n ≡ length variables → AreVariables tokens variables → AreNumbers (length tokens) n count → ((puts : List Put) → length puts ≡ count → AreStatements tokens variables puts → ⊥) → (form : Straight) → IsStraight tokens form → ⊥
-not_straight tokens variables n count e h numbers none form s =
-    none form.puts (count_forced tokens variables n count form e h numbers s)
-    (statements_of tokens variables form (variables_forced tokens variables form h s) s)
-
-pub is_straight : (tokens : List Token) (priority : ℕ) (variables : List Port) (n count : ℕ) (puts : List Put) → n ≡ length variables → length puts ≡ count → HasHead tokens priority → AreVariables tokens variables → AreNumbers (length tokens) n count → HasFrame tokens n count → AreStatements tokens variables puts → IsStraight tokens (record { priority = priority; variables = variables; puts = puts })
-is_straight tokens priority variables n count puts e k head v a f s =
-    let numbers : AreNumbers (length tokens) (length variables) (length puts) =
-    subst (λ (m : ℕ). AreNumbers (length tokens) m (length puts)) e (subst (λ (m : ℕ). AreNumbers (length tokens) n m) (sym k) a) in
-    let frame : HasFrame tokens (length variables) (length puts) =
-    subst (λ (m : ℕ). HasFrame tokens m (length puts)) e (subst (λ (m : ℕ). HasFrame tokens n m) (sym k) f) in
-    record {
-      size = numbers.size;
-      some_variable = numbers.some_variable;
-      some_put = numbers.some_put;
-      whole = numbers.whole;
-      head = head;
-      parts = v.parts.parts;
-      begin = frame.begin;
-      statements = s.statements;
-      between = frame.between.between;
-      tail = frame.tail;
-      own = frame.own;
-    }
+pub not_unequal : (x y : List ℕ) → false ≡ not (bytes_eq x y) → x ≡ y
+not_unequal x y e = same_text x y (negated (bytes_eq x y) e)

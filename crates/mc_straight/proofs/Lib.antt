@@ -1,1 +1,3 @@
+mod Leaves
 mod Forced
+mod Paired

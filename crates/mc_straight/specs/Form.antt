@@ -1,16 +1,28 @@
 -- The straight-line form: one device module that assigns characters to the printer's and the punch's registers.
-use Rattle.std.specs.Prelude.{◌≡◌, ℕ, zero, suc, ◌+◌, ◌*◌, ◌<◌, ◌≤◌, Bool, true, false, ◌||◌, bytes_eq, List, [], ◌∷◌, map, codes, length, slice_get, option_map, Option, Some, None}
+use Rattle.std.specs.Prelude.{◌≡◌, ◌≢◌, ℕ, ◌*◌, ◌≤◌, Bool, false, ◌||◌, bytes_eq, List, [], ◌∷◌, map, codes, length, slice_get, Some}
 use Rattle.mc_tree.specs.declared.place.Place.{Place}
 use Rattle.mc_tree.specs.declared.token.Token.{Token}
-use Rattle.mc_tree.specs.declared.token.Kind.{Kind}
-use Rattle.mc_tree.specs.declared.token.Kind.TheVariants.{Reserved as ReservedKind, Name, Number, Char, Text as TextKind, Symbol as SymbolKind}
-use Rattle.mc_tree.specs.declared.token.Reserved.TheVariants.{DeviceWord, ModuleWord, VarWord, BeginWord, EndWord}
-use Rattle.mc_tree.specs.declared.token.Symbol.TheVariants.{LeftBracket, RightBracket, Semicolon, Colon, Becomes, Dot}
+use Rattle.mc_tree.specs.declared.tree.Id.{Id}
+use Rattle.mc_tree.specs.declared.tree.Begun.{Begun}
+use Rattle.mc_tree.specs.declared.tree.Bracket.{Bracket}
+use Rattle.mc_tree.specs.declared.tree.Device.{Device}
+use Rattle.mc_tree.specs.declared.tree.DeviceProgram.{DeviceProgram}
+use Rattle.mc_tree.specs.declared.tree.DevicePart.TheVariants as device_part
+use Rattle.mc_tree.specs.declared.tree.Decl.TheVariants as decl
+use Rattle.mc_tree.specs.declared.tree.Tree.{Tree}
+use Rattle.mc_tree.specs.declared.tree.Tree.TheVariants as trees
+use Rattle.mc_tree.specs.declared.tree.Var.{Var}
+use Rattle.mc_tree.specs.declared.tree.VarId.{VarId}
+use Rattle.mc_tree.specs.declared.statement.Body.{Body}
+use Rattle.mc_tree.specs.declared.statement.Statement.{Statement}
+use Rattle.mc_tree.specs.declared.statement.Statement.TheViews.{out-Body}
 use Rattle.mc_tree.specs.Sources.{Spells}
+use Rattle.mc_tree.specs.Programs.{IsTreeOf}
 use Rattle.pdp_dev.specs.declared.entry.Port.{Port}
 use Rattle.pdp_dev.specs.declared.entry.Port.TheVariants.{Printer, Punch}
 use Rattle.mc_straight.specs.declared.form.Put.{Put}
-use Rattle.mc_prog.specs.Program.{Cell, Constant, Statement, Assign, Device, CellInfo, Program}
+use Rattle.mc_straight.specs.Alone.{IsNumber, IsChar, IsAssigned}
+use Rattle.mc_prog.specs.Program.{Cell, Constant, Statement as ProgramStatement, Assign, Device as DeviceKind, CellInfo, Program}
 
 -- what a source of this form says
 pub record Straight : Type 0 where
@@ -18,33 +30,9 @@ pub record Straight : Type 0 where
   pub variables : List Port
   pub puts : List Put
 
--- the kind of the token at a place in the list
-abbrev pub kind_at : List Token → ℕ → Option Kind
-kind_at tokens i = option_map (λ t. t.kind) (slice_get tokens i)
-
 abbrev pub address_of : Port → ℕ
 address_of Printer = 0o177566
 address_of Punch = 0o177556
-
--- the name that stands there, and nothing where none does
-abbrev pub name_of : Option Kind → List ℕ
-name_of None = []
-name_of (Some (Name name)) = name
-name_of (Some (ReservedKind w)) = []
-name_of (Some (Number w)) = []
-name_of (Some (Char b)) = []
-name_of (Some (TextKind t)) = []
-name_of (Some (SymbolKind y)) = []
-
-abbrev pub spelled_at : List Token → ℕ → List ℕ
-spelled_at tokens i = name_of (kind_at tokens i)
-
-abbrev pub HasName : List Token → ℕ → Type 0
-HasName tokens i = kind_at tokens i ≡ Some (Name (spelled_at tokens i))
-
--- the same name stands at two places
-abbrev pub are_same : List Token → ℕ → ℕ → Bool
-are_same tokens i j = bytes_eq (spelled_at tokens i) (spelled_at tokens j)
 
 -- the standard names, which no source declares
 abbrev pub is_standard : List ℕ → Bool
@@ -53,86 +41,97 @@ is_standard name =
     || (bytes_eq name (codes "signal") || (bytes_eq name (codes "true") || (bytes_eq name (codes "false") || (bytes_eq name (codes "wait")
     || (bytes_eq name (codes "send") || (bytes_eq name (codes "awaited") || bytes_eq name (codes "doio"))))))))))
 
--- device module NAME [PRIORITY]; var
-pub record HasHead (tokens : List Token) (priority : ℕ) : Type 0 where
-  pub device : kind_at tokens 0 ≡ Some (ReservedKind DeviceWord)
-  pub module_word : kind_at tokens 1 ≡ Some (ReservedKind ModuleWord)
-  pub name : HasName tokens 2
-  pub opens : kind_at tokens 3 ≡ Some (SymbolKind LeftBracket)
-  pub number : kind_at tokens 4 ≡ Some (Number priority)
-  pub closes : kind_at tokens 5 ≡ Some (SymbolKind RightBracket)
-  pub ends : kind_at tokens 6 ≡ Some (SymbolKind Semicolon)
-  pub var : kind_at tokens 7 ≡ Some (ReservedKind VarWord)
+-- a declared name that none of the others is, and that is no standard name
+pub record IsOwn (name : List ℕ) (others : List (List ℕ)) : Type 0 where
+  pub differs : (i : ℕ) → slice_get others i ≢ Some name
+  pub no_standard : is_standard name ≡ false
+
+-- declared names, which differ from one another and from the standard names
+abbrev pub AreOwn : List (List ℕ) → Type 0
+AreOwn [] = Unit {0}
+AreOwn (name ∷ names) = IsOwn name names × AreOwn names
+
+-- two lists of one length, whose items stand in this relation place by place
+abbrev pub ArePaired : {A B : Type 0} → (A → B → Type 0) → List A → List B → Type 0
+ArePaired R [] [] = Unit {0}
+ArePaired R [] (y ∷ ys) = ⊥
+ArePaired R (x ∷ xs) [] = ⊥
+ArePaired R (x ∷ xs) (y ∷ ys) = R x y × ArePaired R xs ys
+
+-- [PRIORITY]
+pub record IsPriority (bracket : Bracket) (priority : ℕ) : Type 0 where
+  pub number : IsNumber bracket.value priority
   pub least : 4 ≤ priority
   pub most : priority ≤ 7
 
+-- NAME [ADDRESS]
+pub record HasAddress (id : VarId) (address : ℕ) : Type 0 where
+  pub bracket : Bracket
+  pub is : id.address ≡ Some bracket
+  pub number : IsNumber bracket.value address
+
 -- NAME [ADDRESS]: char;
-pub record HasPart (tokens : List Token) (i : ℕ) (port : Port) : Type 0 where
-  pub name : HasName tokens i
-  pub opens : kind_at tokens (i + 1) ≡ Some (SymbolKind LeftBracket)
-  pub number : kind_at tokens (i + 2) ≡ Some (Number (address_of port))
-  pub closes : kind_at tokens (i + 3) ≡ Some (SymbolKind RightBracket)
-  pub colon : kind_at tokens (i + 4) ≡ Some (SymbolKind Colon)
-  pub char_is : kind_at tokens (i + 5) ≡ Some (Name (codes "char"))
-  pub ends : kind_at tokens (i + 6) ≡ Some (SymbolKind Semicolon)
+pub record IsVariable (var : Var) (port : Port) : Type 0 where
+  pub one : var.more ≡ []
+  pub address : HasAddress var.first (address_of port)
+  pub of_char : IsChar var.of
 
--- NAME := CHARACTER
-pub record HasPut (tokens : List Token) (i byte : ℕ) : Type 0 where
-  pub name : HasName tokens i
-  pub becomes : kind_at tokens (i + 1) ≡ Some (SymbolKind Becomes)
-  pub character : kind_at tokens (i + 2) ≡ Some (Char byte)
-
--- end NAME. with the module's name
-pub record HasTail (tokens : List Token) (i : ℕ) : Type 0 where
-  pub end : kind_at tokens i ≡ Some (ReservedKind EndWord)
-  pub name : HasName tokens (i + 1)
-  pub same : are_same tokens 2 (i + 1) ≡ true
-  pub dot : kind_at tokens (i + 2) ≡ Some (SymbolKind Dot)
-
--- where the declared names stand: the module's first, then the variables'
-abbrev pub name_place : ℕ → ℕ
-name_place zero = 2
-name_place (suc j) = 8 + 7 * j
-
--- so many declared names differ from one another and from the standard names
-pub record AreOwn (tokens : List Token) (count : ℕ) : Type 0 where
-  pub distinct : (j i : ℕ) → j < count → i < j → are_same tokens (name_place i) (name_place j) ≡ false
-  pub no_standard : (j : ℕ) → j < count → is_standard (spelled_at tokens (name_place j)) ≡ false
+-- the name of a part of a `var` declaration that has one name
+abbrev pub name_of : Var → List ℕ
+name_of var = var.first.name.text
 
 -- NAME := CHARACTER, with the name of a variable
-pub record IsStatement (tokens : List Token) (variables : List Port) (i : ℕ) (put : Put) : Type 0 where
-  pub puts : HasPut tokens i put.byte
-  pub same : are_same tokens (8 + 7 * put.variable) i ≡ true
+pub record IsPut (vars : List Var) (variables : List Port) (statement : Statement) (put : Put) : Type 0 where
+  pub name : Id
+  pub assigned : IsAssigned statement name put.byte
+  pub declared : slice_get (map name_of vars) put.variable ≡ Some name.text
   pub port : slice_get variables put.variable ≡ Some put.port
 
--- The tokens are a head, one or more variables of 7 tokens each, `begin`, one or more statements of 3 tokens each with
--- semicolons between them, and a tail; and they are few enough.
-pub record IsStraight (tokens : List Token) (form : Straight) : Type 0 where
-  pub size : 12 * length tokens ≤ 20000
-  pub some_variable : 1 ≤ length form.variables
-  pub some_put : 1 ≤ length form.puts
-  pub whole : length tokens ≡ 11 + 7 * length form.variables + 4 * length form.puts
-  pub head : HasHead tokens form.priority
-  pub parts : (j : ℕ) (port : Port) → slice_get form.variables j ≡ Some port → HasPart tokens (8 + 7 * j) port
-  pub begin : kind_at tokens (8 + 7 * length form.variables) ≡ Some (ReservedKind BeginWord)
-  pub statements : (k : ℕ) (put : Put) → slice_get form.puts k ≡ Some put → IsStatement tokens form.variables (9 + 7 * length form.variables + 4 * k) put
-  pub between : (k : ℕ) → k + 1 < length form.puts → kind_at tokens (12 + 7 * length form.variables + 4 * k) ≡ Some (SymbolKind Semicolon)
-  pub tail : HasTail tokens (8 + 7 * length form.variables + 4 * length form.puts)
-  pub own : AreOwn tokens (length form.variables + 1)
+-- the statements of a body, in order
+abbrev pub statements_of : Body → List Statement
+statements_of body = (out-Body body).first ∷ map (λ a. a.item) (out-Body body).more
 
--- a source of this form, and what it says
+-- the one part of the block is a `var` declaration of these variables
+pub record Declares (block : Device) (first : Var) (more : List Var) : Type 0 where
+  pub var : Place
+  pub is : block.parts ≡ device_part.Decl (decl.Var var first more) ∷ []
+
+-- A device module: a priority, one `var` declaration of one or more registers, and a body of one or more assignments of
+-- characters to them. The name at its end is its own.
+pub record IsStraightProgram (program : DeviceProgram) (form : Straight) : Type 0 where
+  pub first : Var
+  pub more : List Var
+  pub begun : Begun
+  pub priority : IsPriority program.bracket form.priority
+  pub declares : Declares program.block first more
+  pub has_body : program.block.body ≡ Some begun
+  pub variables : ArePaired IsVariable (first ∷ more) form.variables
+  pub puts : ArePaired (IsPut (first ∷ more) form.variables) (statements_of begun.body) form.puts
+  pub ends : program.end_name.text ≡ program.name.text
+  pub own : AreOwn (program.name.text ∷ map name_of (first ∷ more))
+
+-- the tree is such a module, and this is what it says
+pub record IsStraight (tree : Tree) (form : Straight) : Type 0 where
+  pub program : DeviceProgram
+  pub device : tree ≡ trees.Device program
+  pub straight : IsStraightProgram program form
+
+-- a source of this form, and what it says: at 12 words for each token its size is at most 20,000 words
 pub record IsStraightSource (source : List ℕ) (form : Straight) : Type 0 where
   pub tokens : List Token
   pub end : Place
   pub spelled : Spells tokens end source
-  pub straight : IsStraight tokens form
+  pub tree : Tree
+  pub parsed : IsTreeOf tree tokens
+  pub size : 12 * length tokens ≤ 20000
+  pub straight : IsStraight tree form
 
 -- The program that such a source stands for: one device module, whose variables are registers
 
 abbrev pub cell_of : Port → CellInfo
 cell_of port = record { module_of = 0; register = Some (address_of port) }
 
-abbrev pub statement_of : Put → Statement
+abbrev pub statement_of : Put → ProgramStatement
 statement_of put = Assign (Cell put.variable) (Constant put.byte)
 
 -- The main process's text calls one body without arguments, and counts 16 + 1 * 6 words; the body has one constant open at
@@ -140,7 +139,7 @@ statement_of put = Assign (Cell put.variable) (Constant put.byte)
 abbrev pub program_of : Straight → Program
 program_of form =
     record {
-      modules = record { kind = Device; priority = form.priority; body = map statement_of form.puts; frame = 28 } ∷ [];
+      modules = record { kind = DeviceKind; priority = form.priority; body = map statement_of form.puts; frame = 28 } ∷ [];
       cells = map cell_of form.variables;
       main = 0 ∷ [];
       main_frame = 22;

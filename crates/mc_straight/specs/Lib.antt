@@ -1,2 +1,3 @@
+pub mod Alone
 pub mod Form
-pub mod Pieces
+pub mod Laws

@@ -1,10 +1,9 @@
-// Straight-line device modules: the form of the sources that are compiled today, found in the tokens.
+// Straight-line device modules: the form of the sources that are compiled today, found in the tree.
 #![tactic(auto)]
 
+mod alone;
 pub mod form;
-pub mod kinds;
 mod lists;
+mod names;
 mod parts;
 pub mod read;
-#[cfg(test)]
-mod tests;

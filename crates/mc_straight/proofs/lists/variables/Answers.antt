@@ -1,25 +1,16 @@
-use Rattle.std.proofs.Common.{ℕ, ◌+◌, ◌*◌, ◌∷◌, [], List, length-append, sym, subst, arith}
-use Rattle.mc_tree.specs.declared.token.Token.{Token}
+use Rattle.std.proofs.Common.{◌∷◌, ◌+◌, List, sym, subst, take, arith}
 use Rattle.pdp_dev.specs.declared.entry.Port.{Port}
-use Rattle.mc_straight.specs.Form.{HasPart}
-use Rattle.mc_straight.specs.Pieces.{AreParts}
-use Rattle.mc_straight.proofs.Forced.{parts_more, no_part_past}
+use Rattle.mc_straight.specs.Form.{ArePaired, IsVariable}
+use Rattle.mc_straight.proofs.Paired.{none_first, none_behind, paired_next}
 use Rattle.mc_straight.proofs.lists.variables.Goals as goal
 
-pub loop-j-preserved : goal.loop-j-preserved
-loop-j-preserved c =
-    let tokens : List Token = c.args.tokens.now in
-    let before : List Port = c.loop-j.variables.items in
-    let e = c.in_ok-push-in-Some.ensures.items in
-    let here = subst (λ (n : ℕ). HasPart tokens (8 + 7 * n) c.in-Some.port) (sym c.loop-j.invariant.count) c.in-Some.ensures in
-    record {
-      count = rw e (omega (arith, length-append before (c.in-Some.port ∷ []), c.loop-j.invariant.count));
-      parts = subst (λ (l : List Port). AreParts tokens l) (sym e) (parts_more tokens before c.in-Some.port c.loop-j.invariant.parts here);
-    }
+pub returns-in-None : goal.returns-in-None
+returns-in-None c = none_first IsVariable c.args.first.now c.args.more.now c.in-None.ensures
 
-pub returns : goal.returns
-returns c = record {
-  few = omega (arith, c.loop-j.invariant.count);
-  parts = c.loop-j.invariant.parts;
-  last = λ port h. no_part_past c.args.tokens.now _ port (omega (arith, c.loop-j.invariant.count)) h;
-}
+pub returns-in-None-port : goal.returns-in-None-port
+returns-in-None-port c = none_behind IsVariable c.args.first.now c.args.more.now c.loop-var.var-index c.var-item.result c.var-item.result c.var-item.is (omega arith) c.in-None-port.ensures
+
+pub loop-var-preserved : goal.loop-var-preserved
+loop-var-preserved c =
+    subst (λ (l : List Port). ArePaired IsVariable (c.args.first.now ∷ take (c.loop-var.var-index + 1) c.args.more.now) l) (sym c.in_ok-push-in-Some-port.ensures.items)
+    (paired_next IsVariable c.args.first.now c.args.more.now c.loop-var.var-index c.var-item.result c.var-item.result c.loop-var.ports.items c.in-Some-port.port c.var-item.is (omega arith) c.loop-var.invariant c.in-Some-port.ensures)

@@ -1,6 +1,6 @@
-use Rattle.std.proofs.Common.{◌≡◌, length}
-use Rattle.mc_straight.specs.Pieces.{AreParts}
+use Rattle.std.proofs.Common.{◌∷◌, take}
+use Rattle.mc_straight.specs.Form.{ArePaired, IsVariable}
 use Rattle.mc_straight.proofs.lists.variables.Given as goal
 
-abbrev pub invariant-loop-j : goal.invariant-loop-j
-invariant-loop-j l = record { count : length l.variables.items ≡ l.j; parts : AreParts l.tokens l.variables.items }
+abbrev pub invariant-loop-var : goal.invariant-loop-var
+invariant-loop-var l = ArePaired IsVariable (l.first ∷ take l.var-index l.more) l.ports.items

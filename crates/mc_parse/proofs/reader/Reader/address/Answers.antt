@@ -1,0 +1,18 @@
+use Rattle.std.proofs.Common.{◌∙◌, None, refl, arith}
+use Rattle.mc_parse.specs.Steps.{past, stops, rule_first, handed_on, goes_not_on, skips}
+use Rattle.mc_parse.specs.Only.{address_by}
+use Rattle.mc_tree.specs.Grammar.{AddressBracket, AddressPhrase}
+use Rattle.mc_parse.proofs.reader.Reader.address.Goals as goal
+
+pub returns-then-not-sees_symbol-clause-ok : goal.returns-then-not-sees_symbol-clause-ok
+returns-then-not-sees_symbol-clause-ok c = skips c.args.self.end AddressPhrase None c.args.depth c.args.rest.now (goes_not_on address_by c.args.rest.now c.if-not-sees_symbol.ensures.no) refl
+
+pub returns-in_err-bracket-clause-refused : goal.returns-in_err-bracket-clause-refused
+returns-in_err-bracket-clause-refused c = handed_on c.from_residual.result c.in_err-bracket.field-0.0 c.from_residual.ensures.1 (record {
+  refuses = λ h stack. rule_first c.args.self.end AddressBracket c.args.depth stack c.args.rest.now c.if-not-sees_symbol.ensures.yes (omega arith) ∙ stops c.in_err-bracket.ensures.refused h _ _;
+})
+
+pub returns-clause-ok : goal.returns-clause-ok
+returns-clause-ok c = record {
+  reads = λ stack. rule_first c.args.self.end AddressBracket c.args.depth stack c.args.rest.now c.if-not-sees_symbol.ensures.yes (omega arith) ∙ past c.in_ok-bracket.ensures.ok _ _;
+}

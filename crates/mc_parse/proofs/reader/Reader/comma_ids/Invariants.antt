@@ -1,0 +1,14 @@
+use Rattle.std.proofs.Common.{◌≤◌, ◌++◌, List}
+use Rattle.mc_parse.specs.Reads.{IsReadUpTo}
+use Rattle.mc_tree.specs.Grammar.{CommaIdsPhrase}
+use Rattle.mc_tree.specs.declared.tree.After.{After}
+use Rattle.mc_tree.specs.declared.tree.Id.{Id}
+use Rattle.mc_tree.specs.declared.tree.After.{After}
+use Rattle.std.proofs.Common.{length}
+use Rattle.mc_parse.proofs.reader.Reader.comma_ids.Given as goal
+
+abbrev pub invariant-loop-self : goal.invariant-loop-self
+invariant-loop-self l = record { read : IsReadUpTo l.self.end l.depth CommaIdsPhrase l.fn.rest (λ (more : List (After Id)). l.items ++ more) l.left; within : length l.left ≤ length l.fn.rest }
+
+abbrev pub decreases-loop-self : goal.decreases-loop-self
+decreases-loop-self l = length l.left

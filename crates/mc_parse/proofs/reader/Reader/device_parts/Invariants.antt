@@ -1,0 +1,12 @@
+use Rattle.std.proofs.Common.{◌≤◌, ◌++◌, List}
+use Rattle.mc_parse.specs.Reads.{IsReadUpTo}
+use Rattle.mc_tree.specs.Grammar.{DevicePartsPhrase}
+use Rattle.mc_tree.specs.declared.tree.DevicePart.{DevicePart}
+use Rattle.std.proofs.Common.{length}
+use Rattle.mc_parse.proofs.reader.Reader.device_parts.Given as goal
+
+abbrev pub invariant-loop-items : goal.invariant-loop-items
+invariant-loop-items l = record { read : IsReadUpTo l.self.end l.depth DevicePartsPhrase l.fn.rest (λ (more : List DevicePart). l.items ++ more) l.left; within : length l.left ≤ length l.fn.rest }
+
+abbrev pub decreases-loop-items : goal.decreases-loop-items
+decreases-loop-items l = length l.left

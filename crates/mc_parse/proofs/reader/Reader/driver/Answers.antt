@@ -1,0 +1,56 @@
+use Rattle.std.proofs.Common.{◌∙◌, refl, ap, arith}
+use Rattle.mc_parse.specs.Steps.{past, stops, one_rule, handed_on, read_same}
+use Rattle.mc_parse.specs.Only.{driver_by}
+use Rattle.mc_tree.specs.Grammar.{OneDriver}
+use Rattle.mc_tree.specs.declared.statement.Statement.TheViews.{roll-out-Body}
+use Rattle.mc_tree.specs.declared.statement.Body.{Body}
+use Rattle.mc_tree.specs.declared.tree.Driver.{Driver}
+use Rattle.mc_parse.proofs.reader.Reader.driver.Goals as goal
+
+pub returns-in_err-process-clause-refused : goal.returns-in_err-process-clause-refused
+returns-in_err-process-clause-refused c = handed_on c.from_residual.result c.in_err-process.field-0.0 c.from_residual.ensures.1 (record {
+  refuses = λ h stack. one_rule c.args.self.end OneDriver c.args.depth stack c.args.rest.now driver_by refl (omega arith) ∙ stops c.in_err-process.ensures.refused h _ _;
+})
+
+pub returns-in_err-name-clause-refused : goal.returns-in_err-name-clause-refused
+returns-in_err-name-clause-refused c = handed_on c.from_residual-in_err-name.result c.in_err-name.field-0.0 c.from_residual-in_err-name.ensures.1 (record {
+  refuses = λ h stack. one_rule c.args.self.end OneDriver c.args.depth stack c.args.rest.now driver_by refl (omega arith) ∙ past c.in_ok-process.ensures.ok _ _ ∙ stops c.in_err-name.ensures.refused h _ _;
+})
+
+pub returns-in_err-bracket-clause-refused : goal.returns-in_err-bracket-clause-refused
+returns-in_err-bracket-clause-refused c = handed_on c.from_residual-in_err-bracket.result c.in_err-bracket.field-0.0 c.from_residual-in_err-bracket.ensures.1 (record {
+  refuses = λ h stack. one_rule c.args.self.end OneDriver c.args.depth stack c.args.rest.now driver_by refl (omega arith) ∙ past c.in_ok-process.ensures.ok _ _ ∙ past c.in_ok-name.ensures.ok _ _ ∙ stops c.in_err-bracket.ensures.refused h _ _;
+})
+
+pub returns-in_err-semicolon-clause-refused : goal.returns-in_err-semicolon-clause-refused
+returns-in_err-semicolon-clause-refused c = handed_on c.from_residual-in_err-semicolon.result c.in_err-semicolon.field-0.0 c.from_residual-in_err-semicolon.ensures.1 (record {
+  refuses = λ h stack. one_rule c.args.self.end OneDriver c.args.depth stack c.args.rest.now driver_by refl (omega arith) ∙ past c.in_ok-process.ensures.ok _ _ ∙ past c.in_ok-name.ensures.ok _ _ ∙ past c.in_ok-bracket.ensures.ok _ _ ∙ stops c.in_err-semicolon.ensures.refused h _ _;
+})
+
+pub returns-in_err-local-clause-refused : goal.returns-in_err-local-clause-refused
+returns-in_err-local-clause-refused c = handed_on c.from_residual-in_err-local.result c.in_err-local.field-0.0 c.from_residual-in_err-local.ensures.1 (record {
+  refuses = λ h stack. one_rule c.args.self.end OneDriver c.args.depth stack c.args.rest.now driver_by refl (omega arith) ∙ past c.in_ok-process.ensures.ok _ _ ∙ past c.in_ok-name.ensures.ok _ _ ∙ past c.in_ok-bracket.ensures.ok _ _ ∙ past c.in_ok-semicolon.ensures.ok _ _ ∙ stops c.in_err-local.ensures.refused h _ _;
+})
+
+pub returns-in_err-end-clause-refused : goal.returns-in_err-end-clause-refused
+returns-in_err-end-clause-refused c = handed_on c.from_residual-in_err-end.result c.in_err-end.field-0.0 c.from_residual-in_err-end.ensures.1 (record {
+  refuses = λ h stack. one_rule c.args.self.end OneDriver c.args.depth stack c.args.rest.now driver_by refl (omega arith) ∙ past c.in_ok-process.ensures.ok _ _ ∙ past c.in_ok-name.ensures.ok _ _ ∙ past c.in_ok-bracket.ensures.ok _ _ ∙ past c.in_ok-semicolon.ensures.ok _ _ ∙ past c.in_ok-local.ensures.ok _ _ ∙ stops c.in_err-end.ensures.refused h _ _;
+})
+
+pub returns-in_err-end_name-clause-refused : goal.returns-in_err-end_name-clause-refused
+returns-in_err-end_name-clause-refused c = handed_on c.from_residual-in_err-end_name.result c.in_err-end_name.field-0.0 c.from_residual-in_err-end_name.ensures.1 (record {
+  refuses = λ h stack. one_rule c.args.self.end OneDriver c.args.depth stack c.args.rest.now driver_by refl (omega arith) ∙ past c.in_ok-process.ensures.ok _ _ ∙ past c.in_ok-name.ensures.ok _ _ ∙ past c.in_ok-bracket.ensures.ok _ _ ∙ past c.in_ok-semicolon.ensures.ok _ _ ∙ past c.in_ok-local.ensures.ok _ _ ∙ past c.in_ok-end.ensures.ok _ _ ∙ stops c.in_err-end_name.ensures.refused h _ _;
+})
+
+pub returns-in_err-end_semicolon-clause-refused : goal.returns-in_err-end_semicolon-clause-refused
+returns-in_err-end_semicolon-clause-refused c = handed_on c.from_residual-in_err-end_semicolon.result c.in_err-end_semicolon.field-0.0 c.from_residual-in_err-end_semicolon.ensures.1 (record {
+  refuses = λ h stack. one_rule c.args.self.end OneDriver c.args.depth stack c.args.rest.now driver_by refl (omega arith) ∙ past c.in_ok-process.ensures.ok _ _ ∙ past c.in_ok-name.ensures.ok _ _ ∙ past c.in_ok-bracket.ensures.ok _ _ ∙ past c.in_ok-semicolon.ensures.ok _ _ ∙ past c.in_ok-local.ensures.ok _ _ ∙ past c.in_ok-end.ensures.ok _ _ ∙ past c.in_ok-end_name.ensures.ok _ _ ∙ stops c.in_err-end_semicolon.ensures.refused h _ _;
+})
+
+pub returns-clause-shorter : goal.returns-clause-shorter
+returns-clause-shorter c = omega (arith, c.in_ok-process.ensures.shorter, c.in_ok-name.ensures.shorter, c.in_ok-bracket.ensures.shorter, c.in_ok-semicolon.ensures.shorter, c.in_ok-local.ensures.shorter, c.in_ok-end.ensures.shorter, c.in_ok-end_name.ensures.shorter, c.in_ok-end_semicolon.ensures.shorter)
+
+pub returns-clause-ok : goal.returns-clause-ok
+returns-clause-ok c = read_same (ap (λ (z : Body). let p : Driver = record { process = c.in_ok-process.process.item; name = c.in_ok-name.name.item; bracket = c.in_ok-bracket.bracket.item; semicolon = c.in_ok-semicolon.semicolon.item; local = record { declarations = c.in_ok-local.local.item.declarations; begin = c.in_ok-local.local.item.begin; body = z }; end = c.in_ok-end.end.item; end_name = c.in_ok-end_name.end_name.item; end_semicolon = c.in_ok-end_semicolon.end_semicolon.item } in p) (roll-out-Body c.in_ok-local.local.item.body)) (record {
+  reads = λ stack. one_rule c.args.self.end OneDriver c.args.depth stack c.args.rest.now driver_by refl (omega arith) ∙ past c.in_ok-process.ensures.ok _ _ ∙ past c.in_ok-name.ensures.ok _ _ ∙ past c.in_ok-bracket.ensures.ok _ _ ∙ past c.in_ok-semicolon.ensures.ok _ _ ∙ past c.in_ok-local.ensures.ok _ _ ∙ past c.in_ok-end.ensures.ok _ _ ∙ past c.in_ok-end_name.ensures.ok _ _ ∙ past c.in_ok-end_semicolon.ensures.ok _ _;
+})

@@ -1,0 +1,14 @@
+pub mod PartLaws
+pub mod AddsLaws
+pub mod ExpressionLaws
+pub mod StatementLaws
+pub mod TypeLaws
+pub mod ModuleLaws
+pub mod Inside
+pub mod Found
+pub mod Entering
+pub mod Faults
+pub mod Tables
+pub mod Steps
+pub mod Placing
+pub mod Answering

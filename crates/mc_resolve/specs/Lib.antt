@@ -1,0 +1,9 @@
+pub mod Items
+pub mod Naming
+pub mod Adds
+pub mod Around
+pub mod Views
+pub mod Table
+pub mod Uses
+pub mod Stands
+pub mod Refusals
