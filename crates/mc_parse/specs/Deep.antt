@@ -5,7 +5,6 @@ use Rattle.mc_tree.specs.declared.place.Place.{Place}
 use Rattle.mc_tree.specs.declared.token.Token.{Token}
 use Rattle.mc_tree.specs.declared.expression.Args.{Args}
 use Rattle.mc_tree.specs.declared.statement.Body.{Body}
-use Rattle.mc_tree.specs.declared.tree.Bracket.{Bracket}
 use Rattle.mc_tree.specs.declared.tree.Lists.{Lists}
 use Rattle.mc_tree.specs.declared.tree.Plain.{Plain}
 use Rattle.mc_tree.specs.declared.tree.Face.{Face}
@@ -13,10 +12,12 @@ use Rattle.mc_tree.specs.declared.tree.Device.{Device}
 use Rattle.mc_tree.specs.Grammar.{Phrase, Rule, first, depth_of_first}
 use Rattle.mc_tree.specs.Phrases.{Of}
 use Rattle.mc_parse.specs.declared.fault.ParseFault.{ParseFault}
+use Rattle.mc_parse.specs.declared.frame.DeviceHead.{DeviceHead}
 use Rattle.mc_parse.specs.declared.fault.ParseFault.TheVariants.{TooDeep}
 use Rattle.mc_parse.specs.Heads.{HasFirst, place_of}
 use Rattle.mc_parse.specs.Reads.{IsRead, IsRefused, IsRefusedAs}
-use Rattle.mc_parse.specs.Slots.{IsArgsRead, args_ahead, IsBodyRead, body_ahead, IsBracketRead, bracket_ahead, IsListsRead, lists_ahead, IsPlainRead, plain_ahead, IsFaceRead, face_ahead, IsDeviceRead, device_ahead}
+use Rattle.mc_parse.specs.Slots.{IsArgsRead, args_ahead, IsBodyRead, body_ahead, IsListsRead, lists_ahead, IsPlainRead, plain_ahead, IsFaceRead, face_ahead, IsDeviceRead, device_ahead}
+use Rattle.mc_parse.specs.Frames.{IsDeviceHeadRead, device_head_ahead}
 use Rattle.mc_parse.specs.Steps.{too_deep}
 
 next_depth : (inner d : ℕ) → inner ≡ d + 1 → inner ≡ suc d
@@ -44,11 +45,11 @@ deep_body {end} {inner} {d} {ts} b {others} e r = subst (λ (n : ℕ). IsBodyRea
 pub deep_body_refused : {end : Place} {inner d : ℕ} {ts : List Token} {fault : ParseFault} → inner ≡ d + 1 → IsRefusedAs end (body_ahead inner) ts fault → IsRefusedAs end (body_ahead (suc d)) ts fault
 deep_body_refused {end} {inner} {d} {ts} {fault} e r = subst (λ (n : ℕ). IsRefusedAs end (body_ahead n) ts fault) (next_depth inner d e) r
 
-pub deep_bracket : {end : Place} {inner d : ℕ} {ts : List Token} {b : Bracket} {others : List Token} → inner ≡ d + 1 → IsBracketRead end inner ts b others → IsBracketRead end (suc d) ts b others
-deep_bracket {end} {inner} {d} {ts} {b} {others} e r = subst (λ (n : ℕ). IsBracketRead end n ts b others) (next_depth inner d e) r
+pub deep_device_head : {end : Place} {inner d : ℕ} {ts : List Token} {h : DeviceHead} {others : List Token} → inner ≡ d + 1 → IsDeviceHeadRead end inner ts h others → IsDeviceHeadRead end (suc d) ts h others
+deep_device_head {end} {inner} {d} {ts} {h} {others} e r = subst (λ (n : ℕ). IsDeviceHeadRead end n ts h others) (next_depth inner d e) r
 
-pub deep_bracket_refused : {end : Place} {inner d : ℕ} {ts : List Token} {fault : ParseFault} → inner ≡ d + 1 → IsRefusedAs end (bracket_ahead inner) ts fault → IsRefusedAs end (bracket_ahead (suc d)) ts fault
-deep_bracket_refused {end} {inner} {d} {ts} {fault} e r = subst (λ (n : ℕ). IsRefusedAs end (bracket_ahead n) ts fault) (next_depth inner d e) r
+pub deep_device_head_refused : {end : Place} {inner d : ℕ} {ts : List Token} {fault : ParseFault} → inner ≡ d + 1 → IsRefusedAs end (device_head_ahead inner) ts fault → IsRefusedAs end (device_head_ahead (suc d)) ts fault
+deep_device_head_refused {end} {inner} {d} {ts} {fault} e r = subst (λ (n : ℕ). IsRefusedAs end (device_head_ahead n) ts fault) (next_depth inner d e) r
 
 pub deep_lists : {end : Place} {inner d : ℕ} {ts : List Token} {l : Lists} {others : List Token} → inner ≡ d + 1 → IsListsRead end inner ts l others → IsListsRead end (suc d) ts l others
 deep_lists {end} {inner} {d} {ts} {l} {others} e r = subst (λ (n : ℕ). IsListsRead end n ts l others) (next_depth inner d e) r

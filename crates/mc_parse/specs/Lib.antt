@@ -8,6 +8,7 @@ pub mod Verdicts
 pub mod Reads
 pub mod Heads
 pub mod Slots
+pub mod Frames
 pub mod TokenLaws
 pub mod Only
 pub mod Answers

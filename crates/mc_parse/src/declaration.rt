@@ -1,22 +1,19 @@
-// Reading declarations, procedures and processes. The depth is the number of counting nodes around what is read.
+// Reading declarations. The depth is the number of counting nodes around what is read.
 
 ghost use Rattle.std.specs.Prelude.{◌≡◌, ◌≤◌, ◌<◌, length, IfOk, IfErr};
 ghost use Rattle.std.specs.Bool.{OnTrue, OnFalse};
 ghost use Rattle.mc_tree.specs.Classes.{ReservedClass};
-ghost use Rattle.mc_tree.specs.Grammar.{AddressPhrase, AnswerPhrase, CommaVarIdsPhrase, ConstPhrase, ConstsPhrase, DeclPhrase, DeclsPhrase, DriverPhrase, ParamsPhrase, ProcedurePhrase, ProcessPhrase, SectionPhrase, SectionsPhrase, TypeDeclPhrase, TypeDeclsPhrase, VarIdPhrase, VarPhrase, VarsPhrase};
+ghost use Rattle.mc_tree.specs.Grammar.{AddressPhrase, CommaVarIdsPhrase, ConstPhrase, ConstsPhrase, DeclPhrase, DeclsPhrase, TypeDeclPhrase, TypeDeclsPhrase, VarIdPhrase, VarPhrase, VarsPhrase};
 ghost use Rattle.mc_parse.specs.Heads.{HasFirst, HasOther};
 ghost use Rattle.mc_parse.specs.Begins.{BeginsDeclaration};
 ghost use Rattle.mc_parse.specs.Reads.{IsRead, IsRefused, IsRefusedAs};
-ghost use Rattle.mc_parse.specs.Slots.{IsBracketRead, bracket_ahead, IsLocalRead, local_ahead};
+ghost use Rattle.mc_parse.specs.Slots.{IsBracketRead, bracket_ahead};
 
 use crate::fault::ParseFault;
 use crate::reader::{Read, Reader, sees_name, sees_symbol, sees_word};
 use mc_tree::place::Place;
 use mc_tree::token::{Reserved, Symbol, Token};
-use mc_tree::tree::{
-    After, Bracket, Const, Decl, Driver, Id, Local, Mode, Params, Procedure, Process, Section,
-    TypeDecl, TypeTree, Var, VarId,
-};
+use mc_tree::tree::{After, Bracket, Const, Decl, Id, TypeDecl, TypeTree, Var, VarId};
 use sqlite_items::{Boxed, Items};
 
 /// Whether `const`, `type` or `var` stands at the front.
@@ -81,15 +78,34 @@ impl Reader {
         ensures refused { IfErr result (λ fault. IsRefusedAs self.end (bracket_ahead depth) rest.now fault) }
     {
         let opening = self.mark(rest, Symbol::LeftBracket)?;
-        let value = self.expr(opening.rest, depth)?;
+        let value = self.boxed_expr(opening.rest, depth)?;
         let closing = self.mark(value.rest, Symbol::RightBracket)?;
         Ok(Read {
             item: Bracket {
                 opening: opening.item,
-                value: value.item,
+                value: value.item.into_inner(),
                 closing: closing.item,
             },
             rest: closing.rest,
+        })
+    }
+
+    /// `[ Expr ]`, put apart at once.
+    pub fn boxed_bracket<'a>(
+        self,
+        rest: &'a [Token],
+        depth: u32,
+    ) -> Result<Read<'a, Boxed<Bracket>>, ParseFault>
+        requires depth { depth ≤ 64 }
+        ensures ok { IfOk result (λ r. IsBracketRead self.end depth rest.now r.item r.rest.now) }
+        ensures shorter { IfOk result (λ r. length r.rest.now < length rest.now) }
+        ensures refused { IfErr result (λ fault. IsRefusedAs self.end (bracket_ahead depth) rest.now fault) }
+    {
+        let bracket = self.bracket(rest, depth)?;
+        let item = Boxed::new(self.alloc, bracket.item)?;
+        Ok(Read {
+            item,
+            rest: bracket.rest,
         })
     }
 
@@ -158,10 +174,10 @@ impl Reader {
         ensures refused { IfErr result (λ fault. IsRefused self.end depth DeclPhrase rest.now fault) }
     {
         let word = self.word(rest, Reserved::ConstWord)?;
-        let first = self.constant(word.rest, depth)?;
+        let first = self.boxed_constant(word.rest, depth)?;
         let more = self.more_constants(first.rest, depth)?;
         Ok(Read {
-            item: Decl::Const(word.item, first.item, more.item),
+            item: Decl::Const(word.item, first.item.into_inner(), more.item),
             rest: more.rest,
         })
     }
@@ -199,16 +215,35 @@ impl Reader {
     {
         let name = self.name(rest)?;
         let equal = self.mark(name.rest, Symbol::Equal)?;
-        let value = self.expr(equal.rest, depth)?;
+        let value = self.boxed_expr(equal.rest, depth)?;
         let semicolon = self.mark(value.rest, Symbol::Semicolon)?;
         Ok(Read {
             item: Const {
                 name: name.item,
                 equal: equal.item,
-                value: value.item,
+                value: value.item.into_inner(),
                 semicolon: semicolon.item,
             },
             rest: semicolon.rest,
+        })
+    }
+
+    // The declaration of a constant, put apart at once.
+    fn boxed_constant<'a>(
+        self,
+        rest: &'a [Token],
+        depth: u32,
+    ) -> Result<Read<'a, Boxed<Const>>, ParseFault>
+        requires depth { depth ≤ 64 }
+        ensures ok { IfOk result (λ r. IsRead self.end depth ConstPhrase rest.now r.item r.rest.now) }
+        ensures shorter { IfOk result (λ r. length r.rest.now < length rest.now) }
+        ensures refused { IfErr result (λ fault. IsRefused self.end depth ConstPhrase rest.now fault) }
+    {
+        let whole = self.constant(rest, depth)?;
+        let item = Boxed::new(self.alloc, whole.item)?;
+        Ok(Read {
+            item,
+            rest: whole.rest,
         })
     }
 
@@ -458,297 +493,6 @@ impl Reader {
         Ok(Read {
             item: Some(bracket.item),
             rest: bracket.rest,
-        })
-    }
-
-    /// `{ Decl } begin Body`
-    fn local<'a>(self, rest: &'a [Token], depth: u32) -> Result<Read<'a, Local>, ParseFault>
-        requires depth { depth ≤ 64 }
-        ensures ok { IfOk result (λ r. IsLocalRead self.end depth rest.now r.item r.rest.now) }
-        ensures shorter { IfOk result (λ r. length r.rest.now < length rest.now) }
-        ensures refused { IfErr result (λ fault. IsRefusedAs self.end (local_ahead depth) rest.now fault) }
-    {
-        let declarations = self.declarations(rest, depth)?;
-        let begin = self.word(declarations.rest, Reserved::BeginWord)?;
-        let body = self.body(begin.rest, depth)?;
-        Ok(Read {
-            item: Local {
-                declarations: declarations.item,
-                begin: begin.item,
-                body: body.item,
-            },
-            rest: body.rest,
-        })
-    }
-
-    /// `procedure id [ Params ] [ : id ] ; Local end id ;`
-    pub fn procedure<'a>(
-        self,
-        rest: &'a [Token],
-        depth: u32,
-    ) -> Result<Read<'a, Procedure>, ParseFault>
-        requires depth { depth ≤ 64 }
-        ensures ok { IfOk result (λ r. IsRead self.end depth ProcedurePhrase rest.now r.item r.rest.now) }
-        ensures shorter { IfOk result (λ r. length r.rest.now < length rest.now) }
-        ensures refused { IfErr result (λ fault. IsRefused self.end depth ProcedurePhrase rest.now fault) }
-    {
-        let procedure = self.word(rest, Reserved::ProcedureWord)?;
-        let name = self.name(procedure.rest)?;
-        let params = self.params(name.rest, depth)?;
-        let answer = self.answer(params.rest, depth)?;
-        let semicolon = self.mark(answer.rest, Symbol::Semicolon)?;
-        let local = self.local(semicolon.rest, depth)?;
-        let end = self.word(local.rest, Reserved::EndWord)?;
-        let end_name = self.name(end.rest)?;
-        let end_semicolon = self.mark(end_name.rest, Symbol::Semicolon)?;
-        Ok(Read {
-            item: Procedure {
-                procedure: procedure.item,
-                name: name.item,
-                params: params.item,
-                answer: answer.item,
-                semicolon: semicolon.item,
-                local: local.item,
-                end: end.item,
-                end_name: end_name.item,
-                end_semicolon: end_semicolon.item,
-            },
-            rest: end_semicolon.rest,
-        })
-    }
-
-    /// `process id [ Params ] ; Local end id ;`
-    pub fn process<'a>(self, rest: &'a [Token], depth: u32) -> Result<Read<'a, Process>, ParseFault>
-        requires depth { depth ≤ 64 }
-        ensures ok { IfOk result (λ r. IsRead self.end depth ProcessPhrase rest.now r.item r.rest.now) }
-        ensures shorter { IfOk result (λ r. length r.rest.now < length rest.now) }
-        ensures refused { IfErr result (λ fault. IsRefused self.end depth ProcessPhrase rest.now fault) }
-    {
-        let process = self.word(rest, Reserved::ProcessWord)?;
-        let name = self.name(process.rest)?;
-        let params = self.params(name.rest, depth)?;
-        let semicolon = self.mark(params.rest, Symbol::Semicolon)?;
-        let local = self.local(semicolon.rest, depth)?;
-        let end = self.word(local.rest, Reserved::EndWord)?;
-        let end_name = self.name(end.rest)?;
-        let end_semicolon = self.mark(end_name.rest, Symbol::Semicolon)?;
-        Ok(Read {
-            item: Process {
-                process: process.item,
-                name: name.item,
-                params: params.item,
-                semicolon: semicolon.item,
-                local: local.item,
-                end: end.item,
-                end_name: end_name.item,
-                end_semicolon: end_semicolon.item,
-            },
-            rest: end_semicolon.rest,
-        })
-    }
-
-    /// `process id Bracket ; Local end id ;`
-    pub fn driver<'a>(self, rest: &'a [Token], depth: u32) -> Result<Read<'a, Driver>, ParseFault>
-        requires depth { depth ≤ 64 }
-        ensures ok { IfOk result (λ r. IsRead self.end depth DriverPhrase rest.now r.item r.rest.now) }
-        ensures shorter { IfOk result (λ r. length r.rest.now < length rest.now) }
-        ensures refused { IfErr result (λ fault. IsRefused self.end depth DriverPhrase rest.now fault) }
-    {
-        let process = self.word(rest, Reserved::ProcessWord)?;
-        let name = self.name(process.rest)?;
-        let bracket = self.bracket(name.rest, depth)?;
-        let semicolon = self.mark(bracket.rest, Symbol::Semicolon)?;
-        let local = self.local(semicolon.rest, depth)?;
-        let end = self.word(local.rest, Reserved::EndWord)?;
-        let end_name = self.name(end.rest)?;
-        let end_semicolon = self.mark(end_name.rest, Symbol::Semicolon)?;
-        Ok(Read {
-            item: Driver {
-                process: process.item,
-                name: name.item,
-                bracket: bracket.item,
-                semicolon: semicolon.item,
-                local: local.item,
-                end: end.item,
-                end_name: end_name.item,
-                end_semicolon: end_semicolon.item,
-            },
-            rest: end_semicolon.rest,
-        })
-    }
-
-    /// `[ Params ]`
-    fn params<'a>(
-        self,
-        rest: &'a [Token],
-        depth: u32,
-    ) -> Result<Read<'a, Option<Params>>, ParseFault>
-        requires depth { depth ≤ 64 }
-        ensures ok { IfOk result (λ r. IsRead self.end depth ParamsPhrase rest.now r.item r.rest.now) }
-        ensures within { IfOk result (λ r. length r.rest.now ≤ length rest.now) }
-        ensures refused { IfErr result (λ fault. IsRefused self.end depth ParamsPhrase rest.now fault) }
-    {
-        if !sees_symbol(rest, Symbol::LeftParen) {
-            return Ok(Read { item: None, rest });
-        }
-        let opening = self.mark(rest, Symbol::LeftParen)?;
-        let first = self.section(opening.rest, depth)?;
-        let more = self.more_sections(first.rest, depth)?;
-        let closing = self.mark(more.rest, Symbol::RightParen)?;
-        Ok(Read {
-            item: Some(Params {
-                opening: opening.item,
-                first: first.item,
-                more: more.item,
-                closing: closing.item,
-            }),
-            rest: closing.rest,
-        })
-    }
-
-    /// `{ ; Section }`
-    fn more_sections<'a>(
-        self,
-        rest: &'a [Token],
-        depth: u32,
-    ) -> Result<Read<'a, Items<After<Section>>>, ParseFault>
-        requires depth { depth ≤ 64 }
-        ensures ok { IfOk result (λ r. IsRead self.end depth SectionsPhrase rest.now r.item r.rest.now) }
-        ensures within { IfOk result (λ r. length r.rest.now ≤ length rest.now) }
-        ensures refused { IfErr result (λ fault. IsRefused self.end depth SectionsPhrase rest.now fault) }
-    {
-        let mut items = Items::new(self.alloc);
-        let mut left = rest;
-        while sees_symbol(left, Symbol::Semicolon) {
-            let mark = self.mark(left, Symbol::Semicolon)?;
-            let item = self.section(mark.rest, depth)?;
-            items.push(After {
-                mark: mark.item,
-                item: item.item,
-            })?;
-            left = item.rest;
-        }
-        Ok(Read {
-            item: items,
-            rest: left,
-        })
-    }
-
-    /// `[ const | var ] Ids : id`
-    fn section<'a>(self, rest: &'a [Token], depth: u32) -> Result<Read<'a, Section>, ParseFault>
-        requires depth { depth ≤ 64 }
-        ensures ok { IfOk result (λ r. IsRead self.end depth SectionPhrase rest.now r.item r.rest.now) }
-        ensures shorter { IfOk result (λ r. length r.rest.now < length rest.now) }
-        ensures refused { IfErr result (λ fault. IsRefused self.end depth SectionPhrase rest.now fault) }
-    {
-        if sees_word(rest, Reserved::ConstWord) {
-            self.const_section(rest, depth)
-        } else if sees_word(rest, Reserved::VarWord) {
-            self.var_section(rest, depth)
-        } else {
-            self.plain_section(rest, depth)
-        }
-    }
-
-    // `const Ids : id`
-    fn const_section<'a>(
-        self,
-        rest: &'a [Token],
-        depth: u32,
-    ) -> Result<Read<'a, Section>, ParseFault>
-        requires first { HasFirst (ReservedClass Reserved.ConstWord) rest.now }
-        requires depth { depth ≤ 64 }
-        ensures ok { IfOk result (λ r. IsRead self.end depth SectionPhrase rest.now r.item r.rest.now) }
-        ensures shorter { IfOk result (λ r. length r.rest.now < length rest.now) }
-        ensures refused { IfErr result (λ fault. IsRefused self.end depth SectionPhrase rest.now fault) }
-    {
-        let word = self.word(rest, Reserved::ConstWord)?;
-        let names = self.ids(word.rest, depth)?;
-        let colon = self.mark(names.rest, Symbol::Colon)?;
-        let of = self.name(colon.rest)?;
-        Ok(Read {
-            item: Section {
-                mode: Some(Mode::Const(word.item)),
-                names: names.item,
-                colon: colon.item,
-                of: of.item,
-            },
-            rest: of.rest,
-        })
-    }
-
-    // `var Ids : id`
-    fn var_section<'a>(self, rest: &'a [Token], depth: u32) -> Result<Read<'a, Section>, ParseFault>
-        requires first { HasFirst (ReservedClass Reserved.VarWord) rest.now }
-        requires depth { depth ≤ 64 }
-        ensures ok { IfOk result (λ r. IsRead self.end depth SectionPhrase rest.now r.item r.rest.now) }
-        ensures shorter { IfOk result (λ r. length r.rest.now < length rest.now) }
-        ensures refused { IfErr result (λ fault. IsRefused self.end depth SectionPhrase rest.now fault) }
-    {
-        let word = self.word(rest, Reserved::VarWord)?;
-        let names = self.ids(word.rest, depth)?;
-        let colon = self.mark(names.rest, Symbol::Colon)?;
-        let of = self.name(colon.rest)?;
-        Ok(Read {
-            item: Section {
-                mode: Some(Mode::Var(word.item)),
-                names: names.item,
-                colon: colon.item,
-                of: of.item,
-            },
-            rest: of.rest,
-        })
-    }
-
-    // `Ids : id`
-    fn plain_section<'a>(
-        self,
-        rest: &'a [Token],
-        depth: u32,
-    ) -> Result<Read<'a, Section>, ParseFault>
-        requires no_const { HasOther (ReservedClass Reserved.ConstWord) rest.now }
-        requires no_var { HasOther (ReservedClass Reserved.VarWord) rest.now }
-        requires depth { depth ≤ 64 }
-        ensures ok { IfOk result (λ r. IsRead self.end depth SectionPhrase rest.now r.item r.rest.now) }
-        ensures shorter { IfOk result (λ r. length r.rest.now < length rest.now) }
-        ensures refused { IfErr result (λ fault. IsRefused self.end depth SectionPhrase rest.now fault) }
-    {
-        let names = self.ids(rest, depth)?;
-        let colon = self.mark(names.rest, Symbol::Colon)?;
-        let of = self.name(colon.rest)?;
-        Ok(Read {
-            item: Section {
-                mode: None,
-                names: names.item,
-                colon: colon.item,
-                of: of.item,
-            },
-            rest: of.rest,
-        })
-    }
-
-    /// `[ : id ]`, at any depth
-    fn answer<'a>(
-        self,
-        rest: &'a [Token],
-        depth: u32,
-    ) -> Result<Read<'a, Option<After<Id>>>, ParseFault>
-        requires depth { depth ≤ 64 }
-        ensures ok { IfOk result (λ r. IsRead self.end depth AnswerPhrase rest.now r.item r.rest.now) }
-        ensures within { IfOk result (λ r. length r.rest.now ≤ length rest.now) }
-        ensures refused { IfErr result (λ fault. IsRefused self.end depth AnswerPhrase rest.now fault) }
-    {
-        if !sees_symbol(rest, Symbol::Colon) {
-            return Ok(Read { item: None, rest });
-        }
-        let mark = self.mark(rest, Symbol::Colon)?;
-        let name = self.name(mark.rest)?;
-        Ok(Read {
-            item: Some(After {
-                mark: mark.item,
-                item: name.item,
-            }),
-            rest: name.rest,
         })
     }
 }

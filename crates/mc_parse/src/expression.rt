@@ -83,7 +83,8 @@ fn sign_at(rest: &[Token]) -> Option<Sign>
 }
 
 impl Reader {
-    /// An expression, put apart: a function of another cycle that holds one is slow to prove.
+    /// An expression, put apart at once: a function that holds one while it reads on is slow to prove.
+    #[cycle(expression)]
     pub fn boxed_expr<'a>(
         self,
         rest: &'a [Token],
@@ -392,14 +393,10 @@ impl Reader {
     {
         let inner = deeper(self.place(rest), depth)?;
         let opening = self.mark(rest, Symbol::LeftParen)?;
-        let value = self.expr(opening.rest, inner)?;
+        let value = self.boxed_expr(opening.rest, inner)?;
         let closing = self.mark(value.rest, Symbol::RightParen)?;
         Ok(Read {
-            item: Factor::Group(
-                opening.item,
-                Boxed::new(self.alloc, value.item)?,
-                closing.item,
-            ),
+            item: Factor::Group(opening.item, value.item, closing.item),
             rest: closing.rest,
         })
     }
@@ -476,11 +473,11 @@ impl Reader {
         ensures shorter { IfOk result (λ r. length r.rest.now < length rest.now) }
         ensures refused { IfErr result (λ fault. IsRefused self.end depth BitsTailPhrase rest.now fault) }
     {
-        let first = self.element(rest, depth)?;
+        let first = self.boxed_element(rest, depth)?;
         let more = self.comma_elements(first.rest, depth)?;
         let closing = self.mark(more.rest, Symbol::RightBracket)?;
         let elements = Elements {
-            first: Boxed::new(self.alloc, first.item)?,
+            first: first.item,
             more: more.item,
         };
         Ok(Read {
@@ -518,6 +515,26 @@ impl Reader {
         })
     }
 
+    // An element, put apart at once.
+    #[cycle(expression)]
+    fn boxed_element<'a>(
+        self,
+        rest: &'a [Token],
+        depth: u32,
+    ) -> Result<Read<'a, Boxed<Element>>, ParseFault>
+        requires depth { depth ≤ 64 }
+        ensures ok { IfOk result (λ r. IsRead self.end depth ElementPhrase rest.now r.item r.rest.now) }
+        ensures shorter { IfOk result (λ r. length r.rest.now < length rest.now) }
+        ensures refused { IfErr result (λ fault. IsRefused self.end depth ElementPhrase rest.now fault) }
+    {
+        let element = self.element(rest, depth)?;
+        let item = Boxed::new(self.alloc, element.item)?;
+        Ok(Read {
+            item,
+            rest: element.rest,
+        })
+    }
+
     /// `Expr [ : Expr ]`
     #[cycle(expression)]
     fn element<'a>(self, rest: &'a [Token], depth: u32) -> Result<Read<'a, Element>, ParseFault>
@@ -526,11 +543,11 @@ impl Reader {
         ensures shorter { IfOk result (λ r. length r.rest.now < length rest.now) }
         ensures refused { IfErr result (λ fault. IsRefused self.end depth ElementPhrase rest.now fault) }
     {
-        let first = self.expr(rest, depth)?;
+        let first = self.boxed_expr(rest, depth)?;
         let last = self.last_element(first.rest, depth)?;
         Ok(Read {
             item: Element {
-                first: first.item,
+                first: first.item.into_inner(),
                 last: last.item,
             },
             rest: last.rest,
@@ -572,13 +589,13 @@ impl Reader {
         ensures refused { IfErr result (λ fault. IsRefusedAs self.end (args_ahead depth) rest.now fault) }
     {
         let opening = self.mark(rest, Symbol::LeftParen)?;
-        let first = self.expr(opening.rest, depth)?;
+        let first = self.boxed_expr(opening.rest, depth)?;
         let more = self.comma_exprs(first.rest, depth)?;
         let closing = self.mark(more.rest, Symbol::RightParen)?;
         Ok(Read {
             item: Args {
                 opening: opening.item,
-                first: Boxed::new(self.alloc, first.item)?,
+                first: first.item,
                 more: more.item,
                 closing: closing.item,
             },
@@ -692,16 +709,11 @@ impl Reader {
         ensures assigns_not { IfErr result (λ fault. IsRefused self.end depth AssigningPhrase rest.now fault) }
     {
         let opening = self.mark(rest, Symbol::LeftBracket)?;
-        let first = self.expr(opening.rest, depth)?;
+        let first = self.boxed_expr(opening.rest, depth)?;
         let more = self.comma_exprs(first.rest, depth)?;
         let closing = self.mark(more.rest, Symbol::RightBracket)?;
         Ok(Read {
-            item: Selector::Index(
-                opening.item,
-                Boxed::new(self.alloc, first.item)?,
-                more.item,
-                closing.item,
-            ),
+            item: Selector::Index(opening.item, first.item, more.item, closing.item),
             rest: closing.rest,
         })
     }

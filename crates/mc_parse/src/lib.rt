@@ -1,10 +1,13 @@
 // The parser: the tree of a program's tokens, or the place of its first fault.
 #![tactic(auto)]
 
+mod block;
 mod declaration;
 mod expression;
 mod fault;
+mod frame;
 mod module;
+mod procedure;
 mod reader;
 mod statement;
 mod types;

@@ -1,17 +1,13 @@
 // Reading types. The depth is the number of counting nodes around what is read.
 
-ghost use Rattle.std.specs.Prelude.{◌≡◌, ◌≤◌, ◌<◌, length, IfOk, IfErr};
+ghost use Rattle.std.specs.Prelude.{◌≤◌, ◌<◌, length, IfOk, IfErr};
 ghost use Rattle.mc_tree.specs.Classes.{ReservedClass, NameClass, SymbolClass};
-ghost use Rattle.mc_tree.specs.declared.tree.TypeTree.TheViews.{roll-TypeTree};
-ghost use Rattle.mc_tree.specs.declared.tree.TypeTree.TheOpen.{TypeTree-F};
-ghost use Rattle.mc_parse.specs.declared.fault.ParseFault.TheVariants.{Memory};
 ghost use Rattle.mc_tree.specs.Grammar.{CommaIdsPhrase, CommaRangesPhrase, FieldsPhrase, IdsPhrase, MoreFieldsPhrase, RangePhrase, TypePhrase};
 ghost use Rattle.mc_parse.specs.Heads.{HasFirst, HasOther};
 ghost use Rattle.mc_parse.specs.Reads.{IsRead, IsRefused};
 
 use crate::fault::ParseFault;
 use crate::reader::{Read, Reader, deeper, sees_name, sees_symbol, sees_word};
-use mc_tree::place::Place;
 use mc_tree::token::{Reserved, Symbol, Token};
 use mc_tree::tree::{After, Fields, Id, Ids, Range, TypeTree};
 use sqlite_items::{Boxed, Items};
@@ -70,12 +66,12 @@ impl Reader {
         ensures shorter { IfOk result (λ r. length r.rest.now < length rest.now) }
         ensures refused { IfErr result (λ fault. IsRefused self.end depth RangePhrase rest.now fault) }
     {
-        let low = self.expr(rest, depth)?;
+        let low = self.boxed_expr(rest, depth)?;
         let colon = self.mark(low.rest, Symbol::Colon)?;
         let high = self.expr(colon.rest, depth)?;
         Ok(Read {
             item: Range {
-                low: low.item,
+                low: low.item.into_inner(),
                 colon: colon.item,
                 high: high.item,
             },
@@ -195,10 +191,15 @@ impl Reader {
         let first = self.boxed_range(word.rest, inner)?;
         let more = self.comma_ranges(first.rest, inner)?;
         let of = self.word(more.rest, Reserved::OfWord)?;
-        let element = self.type_tree(of.rest, inner)?;
-        let tree = self.array_tree(word.item, first.item, more.item, of.item, element.item)?;
+        let element = self.boxed_type(of.rest, inner)?;
         Ok(Read {
-            item: tree,
+            item: TypeTree::Array(
+                word.item,
+                first.item.into_inner(),
+                more.item,
+                of.item,
+                element.item,
+            ),
             rest: element.rest,
         })
     }
@@ -223,6 +224,7 @@ impl Reader {
     }
 
     /// A type, put apart at once: a function that holds one while it reads on is slow to prove.
+    #[cycle(type_tree)]
     pub fn boxed_type<'a>(
         self,
         rest: &'a [Token],
@@ -241,27 +243,6 @@ impl Reader {
         })
     }
 
-    // The node of an array type.
-    fn array_tree(
-        self,
-        array: Place,
-        first: Boxed<Range>,
-        more: Items<After<Range>>,
-        of: Place,
-        element: TypeTree,
-    ) -> Result<TypeTree, ParseFault>
-        ensures node { IfOk result (λ tree. tree ≡ roll-TypeTree (TypeTree-F.Array array first more of element)) }
-        ensures refused { IfErr result (λ fault. fault ≡ Memory) }
-    {
-        Ok(TypeTree::Array(
-            array,
-            first.into_inner(),
-            more,
-            of,
-            Boxed::new(self.alloc, element)?,
-        ))
-    }
-
     // `record Fields { ; Fields } end`
     #[cycle(type_tree)]
     fn record<'a>(self, rest: &'a [Token], depth: u32) -> Result<Read<'a, TypeTree>, ParseFault>
@@ -273,16 +254,11 @@ impl Reader {
     {
         let inner = deeper(self.place(rest), depth)?;
         let word = self.word(rest, Reserved::RecordWord)?;
-        let first = self.fields(word.rest, inner)?;
+        let first = self.boxed_fields(word.rest, inner)?;
         let more = self.more_fields(first.rest, inner)?;
         let end = self.word(more.rest, Reserved::EndWord)?;
         Ok(Read {
-            item: TypeTree::Record(
-                word.item,
-                Boxed::new(self.alloc, first.item)?,
-                more.item,
-                end.item,
-            ),
+            item: TypeTree::Record(word.item, first.item, more.item, end.item),
             rest: end.rest,
         })
     }
@@ -313,6 +289,26 @@ impl Reader {
         Ok(Read {
             item: items,
             rest: left,
+        })
+    }
+
+    // The fields of one type, put apart at once.
+    #[cycle(type_tree)]
+    fn boxed_fields<'a>(
+        self,
+        rest: &'a [Token],
+        depth: u32,
+    ) -> Result<Read<'a, Boxed<Fields>>, ParseFault>
+        requires depth { depth ≤ 64 }
+        ensures ok { IfOk result (λ r. IsRead self.end depth FieldsPhrase rest.now r.item r.rest.now) }
+        ensures shorter { IfOk result (λ r. length r.rest.now < length rest.now) }
+        ensures refused { IfErr result (λ fault. IsRefused self.end depth FieldsPhrase rest.now fault) }
+    {
+        let fields = self.fields(rest, depth)?;
+        let item = Boxed::new(self.alloc, fields.item)?;
+        Ok(Read {
+            item,
+            rest: fields.rest,
         })
     }
 

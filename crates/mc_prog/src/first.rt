@@ -6,8 +6,8 @@ ghost use Rattle.mc_prog.specs.First.{number_of, IsNotAfter, IsEarlierOf};
 
 use mc_tree::fault::{Code, Fault};
 
-// The order of codes at one place.
-fn number(code: Code) -> u32
+/// The order of codes at one place.
+pub fn number(code: Code) -> u32
     ensures { result ≡ number_of code }
 {
     match code {

@@ -2,5 +2,8 @@
 #![tactic(auto)]
 
 pub mod first;
+pub mod program;
 pub mod scoped;
 pub mod standard;
+pub mod typing;
+pub mod values;

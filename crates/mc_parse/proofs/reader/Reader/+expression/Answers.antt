@@ -1,4 +1,4 @@
-use Rattle.std.proofs.Common.{suc, Option, Some, ◌∙◌, [], ◌∷◌, None, refl, sym, ap, arith}
+use Rattle.std.proofs.Common.{suc, ◌∙◌, [], ◌∷◌, None, refl, sym, ap, arith}
 use Rattle.mc_parse.specs.Steps.{past, stops, rule_first, by_rule, handed_on, grown, read_same, whole_read, goes_not_on, skips}
 use Rattle.mc_parse.specs.Heads.{first_is}
 use Rattle.std.proofs.lemmas.List.{append-nil}
@@ -7,14 +7,11 @@ use Rattle.mc_parse.specs.Only.{comma_exprs_by, comma_elements_by, element_tail_
 use Rattle.mc_parse.specs.Begins.{expr_as_simple, simple_as_term, term_as_factor, bits_as_element, element_as_expr, no_selectors, factor_tail_then}
 use Rattle.mc_parse.specs.Deep.{deep_read, deep_refused, too_deep_at, deep_args, deep_args_refused}
 use Rattle.mc_tree.specs.Grammar.{Add, BitsFactor, CallFactor, CommaExprsPhrase, Compare, ElementTailPhrase, ExprPhrase, ExprTailPhrase, GroupFactor, IndexSelector, IndexTo, LastElement, MoreElements, MoreExprs, Multiply, NameFactor, NoBits, NotFactor, Signed, Sub, Take}
-use Rattle.mc_tree.specs.declared.expression.Factor.TheViews.{roll-out-Args, roll-Factor, roll-Designator, roll-Selector, roll-Args, roll-Elements, rolls-Bits, rolls-Call, rolls-Designator, rolls-Group, rolls-Index, rolls-Not}
-use Rattle.mc_tree.specs.declared.expression.Factor.TheOpen.{Factor-F, Selector-F}
+use Rattle.mc_tree.specs.declared.expression.Factor.TheViews.{roll-out-Args, roll-Factor, roll-Designator, roll-Element, rolls-Bits, rolls-Call, rolls-Designator, rolls-Group, rolls-Index, rolls-Not}
+use Rattle.mc_tree.specs.declared.expression.Factor.TheOpen.{Factor-F}
 use Rattle.mc_tree.specs.declared.expression.Expr.{Expr}
 use Rattle.mc_tree.specs.declared.expression.Factor.{Factor}
-use Rattle.mc_tree.specs.declared.expression.Element.{Element}
 use Rattle.mc_tree.specs.declared.expression.Args.{Args}
-use Rattle.mc_tree.specs.declared.expression.Elements.{Elements}
-use Rattle.mc_tree.specs.declared.place.Place.{Place}
 use Rattle.mc_tree.specs.Expressions.{relation_symbol, sign_symbol, adding_kind, multiplying_kind}
 use Rattle.mc_tree.specs.Classes.{SymbolClass}
 use Rattle.mc_tree.specs.declared.token.Symbol.TheVariants.{RightParen}
@@ -161,7 +158,7 @@ group-returns-in_err-closing-clause-refused t c = handed_on c.from_residual-in_e
 })
 
 pub group-returns-clause-ok : goal.group-returns-clause-ok
-group-returns-clause-ok t c = read_same (ap (λ (z : Expr). roll-Factor (Factor-F.Group c.in_ok-opening.opening.item z c.in_ok-closing.closing.item)) (sym c.in_ok-new.ensures) ∙ rolls-Group c.in_ok-opening.opening.item c.in_ok-new.field-0 c.in_ok-closing.closing.item) (record {
+group-returns-clause-ok t c = read_same (rolls-Group c.in_ok-opening.opening.item c.in_ok-value.value.item c.in_ok-closing.closing.item) (record {
   reads = λ stack. rule_first c.args.self.end GroupFactor c.args.depth stack c.args.rest.now c.requires.first (omega (arith, c.in_ok-inner.ensures.ok.0, c.in_ok-inner.ensures.ok.1)) ∙ past c.in_ok-opening.ensures.ok _ _ ∙ past (deep_read c.in_ok-inner.ensures.ok.0 c.in_ok-value.ensures.ok) _ _ ∙ past c.in_ok-closing.ensures.ok _ _;
 })
 
@@ -227,9 +224,9 @@ elements-returns-in_err-closing-clause-refused t c = handed_on c.from_residual-i
 })
 
 pub elements-returns-clause-ok : goal.elements-returns-clause-ok
-elements-returns-clause-ok t c = read_same (ap (λ (z : Element). let q : Option Elements × Place = (Some (roll-Elements (record { first = z; more = c.in_ok-more.more.item })), c.in_ok-closing.closing.item) in q) (sym c.in_ok-new.ensures)) (record {
+elements-returns-clause-ok t c = record {
   reads = λ stack. bits_as_element c.args.self.end c.args.depth stack c.args.rest.now c.requires.some ∙ past c.in_ok-first.ensures.ok _ _ ∙ past c.in_ok-more.ensures.ok _ _ ∙ past c.in_ok-closing.ensures.ok _ _;
-})
+}
 
 pub comma_elements-returns-in_err-mark-clause-refused : goal.comma_elements-returns-in_err-mark-clause-refused
 comma_elements-returns-in_err-mark-clause-refused t c = handed_on c.from_residual.result c.in_err-mark.field-0.0 c.from_residual.ensures.1 (record {
@@ -280,9 +277,9 @@ element-returns-in_err-last-clause-refused t c = handed_on c.from_residual-in_er
 })
 
 pub element-returns-clause-ok : goal.element-returns-clause-ok
-element-returns-clause-ok t c = record {
+element-returns-clause-ok t c = read_same (ap (λ (z : Expr). roll-Element (record { first = z; last = c.in_ok-last.last.item })) (sym c.into_inner.ensures)) (record {
   reads = λ stack. element_as_expr c.args.self.end c.args.depth stack c.args.rest.now ∙ past c.in_ok-first.ensures.ok _ _ ∙ past c.in_ok-last.ensures.ok _ _;
-}
+})
 
 pub last_element-returns-then-not-sees_symbol-clause-ok : goal.last_element-returns-then-not-sees_symbol-clause-ok
 last_element-returns-then-not-sees_symbol-clause-ok t c = skips c.args.self.end ElementTailPhrase None c.args.depth c.args.rest.now (goes_not_on element_tail_by c.args.rest.now c.if-not-sees_symbol.ensures.no) refl
@@ -323,7 +320,7 @@ args-returns-in_err-closing-clause-refused t c = handed_on c.from_residual-in_er
 })
 
 pub args-returns-clause-ok : goal.args-returns-clause-ok
-args-returns-clause-ok t c = args_read c.in_ok-opening.opening.item c.in_ok-first.first.item c.in_ok-more.more.item c.in_ok-closing.closing.item _ (ap (λ (z : Expr). roll-Args (record { opening = c.in_ok-opening.opening.item; first = z; more = c.in_ok-more.more.item; closing = c.in_ok-closing.closing.item })) c.in_ok-new.ensures) (record {
+args-returns-clause-ok t c = args_read c.in_ok-opening.opening.item c.in_ok-first.first.item c.in_ok-more.more.item c.in_ok-closing.closing.item _ refl (record {
   reads = λ stack. c.in_ok-opening.ensures.ok.reads (Sub c.args.depth ExprPhrase ∷ Sub c.args.depth CommaExprsPhrase ∷ Take (SymbolClass RightParen) ∷ stack) ∙ past c.in_ok-first.ensures.ok _ _ ∙ past c.in_ok-more.ensures.ok _ _ ∙ past c.in_ok-closing.ensures.ok _ _;
 })
 
@@ -396,7 +393,7 @@ index-returns-in_err-closing-clause-assigns_not t c = handed_on c.from_residual-
 })
 
 pub index-returns-clause-ok : goal.index-returns-clause-ok
-index-returns-clause-ok t c = selector_same (ap (λ (z : Expr). roll-Selector (Selector-F.Index c.in_ok-opening.opening.item z c.in_ok-more.more.item c.in_ok-closing.closing.item)) (sym c.in_ok-new.ensures) ∙ rolls-Index c.in_ok-opening.opening.item c.in_ok-new.field-0 c.in_ok-more.more.item c.in_ok-closing.closing.item) (record {
+index-returns-clause-ok t c = selector_same (rolls-Index c.in_ok-opening.opening.item c.in_ok-first.first.item c.in_ok-more.more.item c.in_ok-closing.closing.item) (record {
   selects = record { reads = λ stack. rule_first c.args.self.end IndexSelector c.args.depth stack c.args.rest.now c.requires.first (omega arith) ∙ past c.in_ok-opening.ensures.ok _ _ ∙ past c.in_ok-first.ensures.ok _ _ ∙ past c.in_ok-more.ensures.ok _ _ ∙ past c.in_ok-closing.ensures.ok _ _ };
   assigns = record { reads = λ stack. rule_first c.args.self.end IndexTo c.args.depth stack c.args.rest.now c.requires.first (omega arith) ∙ past c.in_ok-opening.ensures.ok _ _ ∙ past c.in_ok-first.ensures.ok _ _ ∙ past c.in_ok-more.ensures.ok _ _ ∙ past c.in_ok-closing.ensures.ok _ _ };
 })

@@ -14,6 +14,9 @@ use Rattle.mc_parse.proofs.reader.Reader.+expression.Given as goal
 abbrev pub decreases-expr : goal.decreases-expr
 decreases-expr l = (64 - l.depth) * 16 + 8
 
+abbrev pub decreases-boxed_expr : goal.decreases-boxed_expr
+decreases-boxed_expr l = (64 - l.depth) * 16 + 9
+
 abbrev pub decreases-compared : goal.decreases-compared
 decreases-compared l = (64 - l.depth) * 16 + 7
 
@@ -61,6 +64,9 @@ decreases-comma_elements l = (64 - l.depth) * 16 + 11
 
 abbrev pub decreases-element : goal.decreases-element
 decreases-element l = (64 - l.depth) * 16 + 10
+
+abbrev pub decreases-boxed_element : goal.decreases-boxed_element
+decreases-boxed_element l = (64 - l.depth) * 16 + 11
 
 abbrev pub decreases-last_element : goal.decreases-last_element
 decreases-last_element l = (64 - l.depth) * 16 + 9

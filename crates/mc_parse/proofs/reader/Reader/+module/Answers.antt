@@ -1,4 +1,4 @@
-use Rattle.std.proofs.Common.{◌∙◌, [], ◌∷◌, ◌++◌, refl, ap, arith}
+use Rattle.std.proofs.Common.{◌∙◌, [], ◌∷◌, ◌++◌, refl, sym, ap, arith}
 use Rattle.mc_parse.specs.Steps.{past, stops, rule_first, handed_on, read_same, whole_read, mapped-mapped, grown}
 use Rattle.std.proofs.lemmas.List.{append-nil}
 use Rattle.mc_parse.specs.Views.{plain_read, part_same}
@@ -9,6 +9,7 @@ use Rattle.mc_tree.specs.Phrases.{Trees}
 use Rattle.mc_parse.specs.Decode.{mapped}
 use Rattle.mc_tree.specs.declared.tree.Module.TheViews.{roll-out-Plain, roll-Module, roll-PlainModule, rolls-Module, rolls-Plain}
 use Rattle.mc_tree.specs.declared.tree.Module.TheOpen.{Module-F}
+use Rattle.mc_tree.specs.declared.tree.Lists.{Lists}
 use Rattle.mc_tree.specs.declared.tree.Plain.{Plain}
 use Rattle.mc_parse.proofs.reader.Reader.+module.Goals as goal
 
@@ -70,27 +71,17 @@ plain_module-returns-in_err-block-clause-refused t c = handed_on c.from_residual
   refuses = λ h stack. rule_first c.args.self.end PlainInside c.args.depth stack c.args.rest.now c.requires.first (omega (arith, c.in_ok-inner.ensures.ok.0, c.in_ok-inner.ensures.ok.1)) ∙ past c.in_ok-module_word.ensures.ok _ _ ∙ past c.in_ok-name.ensures.ok _ _ ∙ past c.in_ok-semicolon.ensures.ok _ _ ∙ past (deep_lists c.in_ok-inner.ensures.ok.0 c.in_ok-lists.ensures.ok) _ _ ∙ stops (deep_plain_refused c.in_ok-inner.ensures.ok.0 c.in_err-block.ensures.refused) h _ _;
 })
 
-pub plain_module-returns-in_err-end-clause-refused : goal.plain_module-returns-in_err-end-clause-refused
-plain_module-returns-in_err-end-clause-refused t c = handed_on c.from_residual-in_err-end.result c.in_err-end.field-0.0 c.from_residual-in_err-end.ensures.1 (record {
-  refuses = λ h stack. rule_first c.args.self.end PlainInside c.args.depth stack c.args.rest.now c.requires.first (omega (arith, c.in_ok-inner.ensures.ok.0, c.in_ok-inner.ensures.ok.1)) ∙ past c.in_ok-module_word.ensures.ok _ _ ∙ past c.in_ok-name.ensures.ok _ _ ∙ past c.in_ok-semicolon.ensures.ok _ _ ∙ past (deep_lists c.in_ok-inner.ensures.ok.0 c.in_ok-lists.ensures.ok) _ _ ∙ past (deep_plain c.in_ok-block.block.item c.in_ok-inner.ensures.ok.0 c.in_ok-block.ensures.ok) _ _ ∙ stops c.in_err-end.ensures.refused h _ _;
-})
-
-pub plain_module-returns-in_err-end_name-clause-refused : goal.plain_module-returns-in_err-end_name-clause-refused
-plain_module-returns-in_err-end_name-clause-refused t c = handed_on c.from_residual-in_err-end_name.result c.in_err-end_name.field-0.0 c.from_residual-in_err-end_name.ensures.1 (record {
-  refuses = λ h stack. rule_first c.args.self.end PlainInside c.args.depth stack c.args.rest.now c.requires.first (omega (arith, c.in_ok-inner.ensures.ok.0, c.in_ok-inner.ensures.ok.1)) ∙ past c.in_ok-module_word.ensures.ok _ _ ∙ past c.in_ok-name.ensures.ok _ _ ∙ past c.in_ok-semicolon.ensures.ok _ _ ∙ past (deep_lists c.in_ok-inner.ensures.ok.0 c.in_ok-lists.ensures.ok) _ _ ∙ past (deep_plain c.in_ok-block.block.item c.in_ok-inner.ensures.ok.0 c.in_ok-block.ensures.ok) _ _ ∙ past c.in_ok-end.ensures.ok _ _ ∙ stops c.in_err-end_name.ensures.refused h _ _;
-})
-
-pub plain_module-returns-in_err-end_semicolon-clause-refused : goal.plain_module-returns-in_err-end_semicolon-clause-refused
-plain_module-returns-in_err-end_semicolon-clause-refused t c = handed_on c.from_residual-in_err-end_semicolon.result c.in_err-end_semicolon.field-0.0 c.from_residual-in_err-end_semicolon.ensures.1 (record {
-  refuses = λ h stack. rule_first c.args.self.end PlainInside c.args.depth stack c.args.rest.now c.requires.first (omega (arith, c.in_ok-inner.ensures.ok.0, c.in_ok-inner.ensures.ok.1)) ∙ past c.in_ok-module_word.ensures.ok _ _ ∙ past c.in_ok-name.ensures.ok _ _ ∙ past c.in_ok-semicolon.ensures.ok _ _ ∙ past (deep_lists c.in_ok-inner.ensures.ok.0 c.in_ok-lists.ensures.ok) _ _ ∙ past (deep_plain c.in_ok-block.block.item c.in_ok-inner.ensures.ok.0 c.in_ok-block.ensures.ok) _ _ ∙ past c.in_ok-end.ensures.ok _ _ ∙ past c.in_ok-end_name.ensures.ok _ _ ∙ stops c.in_err-end_semicolon.ensures.refused h _ _;
+pub plain_module-returns-in_err-ending-clause-refused : goal.plain_module-returns-in_err-ending-clause-refused
+plain_module-returns-in_err-ending-clause-refused t c = handed_on c.from_residual-in_err-ending.result c.in_err-ending.field-0.0 c.from_residual-in_err-ending.ensures.1 (record {
+  refuses = λ h stack. rule_first c.args.self.end PlainInside c.args.depth stack c.args.rest.now c.requires.first (omega (arith, c.in_ok-inner.ensures.ok.0, c.in_ok-inner.ensures.ok.1)) ∙ past c.in_ok-module_word.ensures.ok _ _ ∙ past c.in_ok-name.ensures.ok _ _ ∙ past c.in_ok-semicolon.ensures.ok _ _ ∙ past (deep_lists c.in_ok-inner.ensures.ok.0 c.in_ok-lists.ensures.ok) _ _ ∙ past (deep_plain c.in_ok-block.block.item c.in_ok-inner.ensures.ok.0 c.in_ok-block.ensures.ok) _ _ ∙ stops c.in_err-ending.ensures.refused h _ _;
 })
 
 pub plain_module-returns-clause-shorter : goal.plain_module-returns-clause-shorter
-plain_module-returns-clause-shorter t c = omega (arith, c.in_ok-module_word.ensures.shorter, c.in_ok-name.ensures.shorter, c.in_ok-semicolon.ensures.shorter, c.in_ok-lists.ensures.within, c.in_ok-block.ensures.within, c.in_ok-end.ensures.shorter, c.in_ok-end_name.ensures.shorter, c.in_ok-end_semicolon.ensures.shorter)
+plain_module-returns-clause-shorter t c = omega (arith, c.in_ok-module_word.ensures.shorter, c.in_ok-name.ensures.shorter, c.in_ok-semicolon.ensures.shorter, c.in_ok-lists.ensures.within, c.in_ok-block.ensures.within, c.in_ok-ending.ensures.shorter)
 
 pub plain_module-returns-clause-ok : goal.plain_module-returns-clause-ok
-plain_module-returns-clause-ok t c = read_same (ap (λ (z : Plain). roll-Module (Module-F.Plain (roll-PlainModule (record { module_word = c.in_ok-module_word.module_word.item; name = c.in_ok-name.name.item; semicolon = c.in_ok-semicolon.semicolon.item; lists = c.in_ok-lists.lists.item; block = z; end = c.in_ok-end.end.item; end_name = c.in_ok-end_name.end_name.item; end_semicolon = c.in_ok-end_semicolon.end_semicolon.item })))) (roll-out-Plain c.in_ok-block.block.item) ∙ rolls-Plain _) (record {
-  reads = λ stack. rule_first c.args.self.end PlainInside c.args.depth stack c.args.rest.now c.requires.first (omega (arith, c.in_ok-inner.ensures.ok.0, c.in_ok-inner.ensures.ok.1)) ∙ past c.in_ok-module_word.ensures.ok _ _ ∙ past c.in_ok-name.ensures.ok _ _ ∙ past c.in_ok-semicolon.ensures.ok _ _ ∙ past (deep_lists c.in_ok-inner.ensures.ok.0 c.in_ok-lists.ensures.ok) _ _ ∙ past (deep_plain c.in_ok-block.block.item c.in_ok-inner.ensures.ok.0 c.in_ok-block.ensures.ok) _ _ ∙ past c.in_ok-end.ensures.ok _ _ ∙ past c.in_ok-end_name.ensures.ok _ _ ∙ past c.in_ok-end_semicolon.ensures.ok _ _;
+plain_module-returns-clause-ok t c = read_same (ap (λ (z : Plain). roll-Module (Module-F.Plain (roll-PlainModule (record { module_word = c.in_ok-module_word.module_word.item; name = c.in_ok-name.name.item; semicolon = c.in_ok-semicolon.semicolon.item; lists = c.in_ok-lists.lists.item; block = z; end = c.in_ok-ending.ending.item.end; end_name = c.in_ok-ending.ending.item.name; end_semicolon = c.in_ok-ending.ending.item.mark })))) (roll-out-Plain c.in_ok-block.block.item) ∙ ap (λ (l : Lists). roll-Module (Module-F.Plain (roll-PlainModule (record { module_word = c.in_ok-module_word.module_word.item; name = c.in_ok-name.name.item; semicolon = c.in_ok-semicolon.semicolon.item; lists = l; block = c.in_ok-block.block.item; end = c.in_ok-ending.ending.item.end; end_name = c.in_ok-ending.ending.item.name; end_semicolon = c.in_ok-ending.ending.item.mark })))) (sym c.into_inner.ensures) ∙ rolls-Plain _) (record {
+  reads = λ stack. rule_first c.args.self.end PlainInside c.args.depth stack c.args.rest.now c.requires.first (omega (arith, c.in_ok-inner.ensures.ok.0, c.in_ok-inner.ensures.ok.1)) ∙ past c.in_ok-module_word.ensures.ok _ _ ∙ past c.in_ok-name.ensures.ok _ _ ∙ past c.in_ok-semicolon.ensures.ok _ _ ∙ past (deep_lists c.in_ok-inner.ensures.ok.0 c.in_ok-lists.ensures.ok) _ _ ∙ past (deep_plain c.in_ok-block.block.item c.in_ok-inner.ensures.ok.0 c.in_ok-block.ensures.ok) _ _ ∙ past c.in_ok-ending.ensures.ok _ _;
 })
 
 pub plain_parts-loop-items-preserved : goal.plain_parts-loop-items-preserved

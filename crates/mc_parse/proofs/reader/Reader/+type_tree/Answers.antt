@@ -5,9 +5,9 @@ use Rattle.mc_parse.specs.Only.{more_fields_by}
 use Rattle.mc_parse.specs.Begins.{fields_as_ids}
 use Rattle.mc_parse.specs.Deep.{deep_read, deep_refused, too_deep_at}
 use Rattle.mc_tree.specs.Grammar.{ArrayType, NextFields, RecordType}
-use Rattle.mc_tree.specs.declared.tree.TypeTree.TheViews.{roll-TypeTree, rolls-Record}
+use Rattle.mc_tree.specs.declared.tree.Range.{Range}
 use Rattle.mc_tree.specs.declared.tree.TypeTree.TheOpen.{TypeTree-F}
-use Rattle.mc_tree.specs.declared.tree.Fields.{Fields}
+use Rattle.mc_tree.specs.declared.tree.TypeTree.TheViews.{roll-TypeTree, rolls-Array, rolls-Record}
 use Rattle.mc_parse.proofs.reader.Reader.+type_tree.Goals as goal
 
 pub array-returns-in_err-inner-clause-refused : goal.array-returns-in_err-inner-clause-refused
@@ -38,16 +38,11 @@ array-returns-in_err-element-clause-refused t c = handed_on c.from_residual-in_e
   refuses = λ h stack. rule_first c.args.self.end ArrayType c.args.depth stack c.args.rest.now c.requires.first (omega (arith, c.in_ok-inner.ensures.ok.0, c.in_ok-inner.ensures.ok.1)) ∙ past c.in_ok-word.ensures.ok _ _ ∙ past (deep_read c.in_ok-inner.ensures.ok.0 c.in_ok-first.ensures.ok) _ _ ∙ past (deep_read c.in_ok-inner.ensures.ok.0 c.in_ok-more.ensures.ok) _ _ ∙ past c.in_ok-of.ensures.ok _ _ ∙ stops (deep_refused c.in_ok-inner.ensures.ok.0 c.in_err-element.ensures.refused) h _ _;
 })
 
-pub array-returns-in_err-tree-clause-refused : goal.array-returns-in_err-tree-clause-refused
-array-returns-in_err-tree-clause-refused t c = handed_on c.from_residual-in_err-tree.result c.in_err-tree.field-0.0 c.from_residual-in_err-tree.ensures.1 (record {
-  refuses = λ h stack. absurd (h c.in_err-tree.ensures.refused);
-})
-
 pub array-returns-clause-shorter : goal.array-returns-clause-shorter
 array-returns-clause-shorter t c = omega (arith, c.in_ok-word.ensures.shorter, c.in_ok-first.ensures.shorter, c.in_ok-more.ensures.within, c.in_ok-of.ensures.shorter, c.in_ok-element.ensures.shorter)
 
 pub array-returns-clause-ok : goal.array-returns-clause-ok
-array-returns-clause-ok t c = read_same (sym c.in_ok-tree.ensures.node) (record {
+array-returns-clause-ok t c = read_same (ap (λ (z : Range). roll-TypeTree (TypeTree-F.Array c.in_ok-word.word.item z c.in_ok-more.more.item c.in_ok-of.of.item c.in_ok-element.element.item)) (sym c.into_inner.ensures) ∙ rolls-Array c.in_ok-word.word.item c.into_inner.result c.in_ok-more.more.item c.in_ok-of.of.item c.in_ok-element.element.item) (record {
   reads = λ stack. rule_first c.args.self.end ArrayType c.args.depth stack c.args.rest.now c.requires.first (omega (arith, c.in_ok-inner.ensures.ok.0, c.in_ok-inner.ensures.ok.1)) ∙ past c.in_ok-word.ensures.ok _ _ ∙ past (deep_read c.in_ok-inner.ensures.ok.0 c.in_ok-first.ensures.ok) _ _ ∙ past (deep_read c.in_ok-inner.ensures.ok.0 c.in_ok-more.ensures.ok) _ _ ∙ past c.in_ok-of.ensures.ok _ _ ∙ past (deep_read c.in_ok-inner.ensures.ok.0 c.in_ok-element.ensures.ok) _ _;
 })
 
@@ -78,7 +73,7 @@ pub record-returns-clause-shorter : goal.record-returns-clause-shorter
 record-returns-clause-shorter t c = omega (arith, c.in_ok-word.ensures.shorter, c.in_ok-first.ensures.shorter, c.in_ok-more.ensures.within, c.in_ok-end.ensures.shorter)
 
 pub record-returns-clause-ok : goal.record-returns-clause-ok
-record-returns-clause-ok t c = read_same (ap (λ (z : Fields). roll-TypeTree (TypeTree-F.Record c.in_ok-word.word.item z c.in_ok-more.more.item c.in_ok-end.end.item)) (sym c.in_ok-new.ensures) ∙ rolls-Record c.in_ok-word.word.item c.in_ok-new.field-0 c.in_ok-more.more.item c.in_ok-end.end.item) (record {
+record-returns-clause-ok t c = read_same (rolls-Record c.in_ok-word.word.item c.in_ok-first.first.item c.in_ok-more.more.item c.in_ok-end.end.item) (record {
   reads = λ stack. rule_first c.args.self.end RecordType c.args.depth stack c.args.rest.now c.requires.first (omega (arith, c.in_ok-inner.ensures.ok.0, c.in_ok-inner.ensures.ok.1)) ∙ past c.in_ok-word.ensures.ok _ _ ∙ past (deep_read c.in_ok-inner.ensures.ok.0 c.in_ok-first.ensures.ok) _ _ ∙ past (deep_read c.in_ok-inner.ensures.ok.0 c.in_ok-more.ensures.ok) _ _ ∙ past c.in_ok-end.ensures.ok _ _;
 })
 

@@ -1,7 +1,9 @@
-use Rattle.std.proofs.Common.{◌∙◌, refl, arith}
-use Rattle.mc_parse.specs.Steps.{past, stops, one_rule, handed_on}
+use Rattle.std.proofs.Common.{◌∙◌, refl, sym, ap, arith}
+use Rattle.mc_parse.specs.Steps.{past, stops, one_rule, handed_on, read_same}
 use Rattle.mc_parse.specs.Only.{const_by}
 use Rattle.mc_tree.specs.Grammar.{OneConst}
+use Rattle.mc_tree.specs.declared.expression.Expr.{Expr}
+use Rattle.mc_tree.specs.declared.tree.Const.{Const}
 use Rattle.mc_parse.proofs.reader.Reader.constant.Goals as goal
 
 pub returns-in_err-name-clause-refused : goal.returns-in_err-name-clause-refused
@@ -28,6 +30,6 @@ pub returns-clause-shorter : goal.returns-clause-shorter
 returns-clause-shorter c = omega (arith, c.in_ok-name.ensures.shorter, c.in_ok-equal.ensures.shorter, c.in_ok-value.ensures.shorter, c.in_ok-semicolon.ensures.shorter)
 
 pub returns-clause-ok : goal.returns-clause-ok
-returns-clause-ok c = record {
+returns-clause-ok c = read_same (ap (λ (z : Expr). let k : Const = record { name = c.in_ok-name.name.item; equal = c.in_ok-equal.equal.item; value = z; semicolon = c.in_ok-semicolon.semicolon.item } in k) (sym c.into_inner.ensures)) (record {
   reads = λ stack. one_rule c.args.self.end OneConst c.args.depth stack c.args.rest.now const_by refl (omega arith) ∙ past c.in_ok-name.ensures.ok _ _ ∙ past c.in_ok-equal.ensures.ok _ _ ∙ past c.in_ok-value.ensures.ok _ _ ∙ past c.in_ok-semicolon.ensures.ok _ _;
-}
+})

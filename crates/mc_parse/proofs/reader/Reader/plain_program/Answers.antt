@@ -26,25 +26,15 @@ returns-in_err-block-clause-refused c = handed_on c.from_residual-in_err-block.r
   refuses = λ h stack. rule_first c.args.self.end PlainWhole c.args.depth stack c.args.rest.now c.requires.first (omega arith) ∙ past c.in_ok-module_word.ensures.ok _ _ ∙ past c.in_ok-name.ensures.ok _ _ ∙ past c.in_ok-semicolon.ensures.ok _ _ ∙ stops c.in_err-block.ensures.refused h _ _;
 })
 
-pub returns-in_err-end-clause-refused : goal.returns-in_err-end-clause-refused
-returns-in_err-end-clause-refused c = handed_on c.from_residual-in_err-end.result c.in_err-end.field-0.0 c.from_residual-in_err-end.ensures.1 (record {
-  refuses = λ h stack. rule_first c.args.self.end PlainWhole c.args.depth stack c.args.rest.now c.requires.first (omega arith) ∙ past c.in_ok-module_word.ensures.ok _ _ ∙ past c.in_ok-name.ensures.ok _ _ ∙ past c.in_ok-semicolon.ensures.ok _ _ ∙ past c.in_ok-block.ensures.ok _ _ ∙ stops c.in_err-end.ensures.refused h _ _;
-})
-
-pub returns-in_err-end_name-clause-refused : goal.returns-in_err-end_name-clause-refused
-returns-in_err-end_name-clause-refused c = handed_on c.from_residual-in_err-end_name.result c.in_err-end_name.field-0.0 c.from_residual-in_err-end_name.ensures.1 (record {
-  refuses = λ h stack. rule_first c.args.self.end PlainWhole c.args.depth stack c.args.rest.now c.requires.first (omega arith) ∙ past c.in_ok-module_word.ensures.ok _ _ ∙ past c.in_ok-name.ensures.ok _ _ ∙ past c.in_ok-semicolon.ensures.ok _ _ ∙ past c.in_ok-block.ensures.ok _ _ ∙ past c.in_ok-end.ensures.ok _ _ ∙ stops c.in_err-end_name.ensures.refused h _ _;
-})
-
-pub returns-in_err-dot-clause-refused : goal.returns-in_err-dot-clause-refused
-returns-in_err-dot-clause-refused c = handed_on c.from_residual-in_err-dot.result c.in_err-dot.field-0.0 c.from_residual-in_err-dot.ensures.1 (record {
-  refuses = λ h stack. rule_first c.args.self.end PlainWhole c.args.depth stack c.args.rest.now c.requires.first (omega arith) ∙ past c.in_ok-module_word.ensures.ok _ _ ∙ past c.in_ok-name.ensures.ok _ _ ∙ past c.in_ok-semicolon.ensures.ok _ _ ∙ past c.in_ok-block.ensures.ok _ _ ∙ past c.in_ok-end.ensures.ok _ _ ∙ past c.in_ok-end_name.ensures.ok _ _ ∙ stops c.in_err-dot.ensures.refused h _ _;
+pub returns-in_err-ending-clause-refused : goal.returns-in_err-ending-clause-refused
+returns-in_err-ending-clause-refused c = handed_on c.from_residual-in_err-ending.result c.in_err-ending.field-0.0 c.from_residual-in_err-ending.ensures.1 (record {
+  refuses = λ h stack. rule_first c.args.self.end PlainWhole c.args.depth stack c.args.rest.now c.requires.first (omega arith) ∙ past c.in_ok-module_word.ensures.ok _ _ ∙ past c.in_ok-name.ensures.ok _ _ ∙ past c.in_ok-semicolon.ensures.ok _ _ ∙ past c.in_ok-block.ensures.ok _ _ ∙ stops c.in_err-ending.ensures.refused h _ _;
 })
 
 pub returns-clause-shorter : goal.returns-clause-shorter
-returns-clause-shorter c = omega (arith, c.in_ok-module_word.ensures.shorter, c.in_ok-name.ensures.shorter, c.in_ok-semicolon.ensures.shorter, c.in_ok-block.ensures.within, c.in_ok-end.ensures.shorter, c.in_ok-end_name.ensures.shorter, c.in_ok-dot.ensures.shorter)
+returns-clause-shorter c = omega (arith, c.in_ok-module_word.ensures.shorter, c.in_ok-name.ensures.shorter, c.in_ok-semicolon.ensures.shorter, c.in_ok-block.ensures.within, c.in_ok-ending.ensures.shorter)
 
 pub returns-clause-ok : goal.returns-clause-ok
-returns-clause-ok c = read_same (ap (λ (z : Plain). tree.Plain (record { module_word = c.in_ok-module_word.module_word.item; name = c.in_ok-name.name.item; semicolon = c.in_ok-semicolon.semicolon.item; block = z; end = c.in_ok-end.end.item; end_name = c.in_ok-end_name.end_name.item; dot = c.in_ok-dot.dot.item })) (roll-out-Plain c.in_ok-block.block.item)) (record {
-  reads = λ stack. rule_first c.args.self.end PlainWhole c.args.depth stack c.args.rest.now c.requires.first (omega arith) ∙ past c.in_ok-module_word.ensures.ok _ _ ∙ past c.in_ok-name.ensures.ok _ _ ∙ past c.in_ok-semicolon.ensures.ok _ _ ∙ past c.in_ok-block.ensures.ok _ _ ∙ past c.in_ok-end.ensures.ok _ _ ∙ past c.in_ok-end_name.ensures.ok _ _ ∙ past c.in_ok-dot.ensures.ok _ _;
+returns-clause-ok c = read_same (ap (λ (z : Plain). tree.Plain (record { module_word = c.in_ok-module_word.module_word.item; name = c.in_ok-name.name.item; semicolon = c.in_ok-semicolon.semicolon.item; block = z; end = c.in_ok-ending.ending.item.end; end_name = c.in_ok-ending.ending.item.name; dot = c.in_ok-ending.ending.item.mark })) (roll-out-Plain c.in_ok-block.block.item)) (record {
+  reads = λ stack. rule_first c.args.self.end PlainWhole c.args.depth stack c.args.rest.now c.requires.first (omega arith) ∙ past c.in_ok-module_word.ensures.ok _ _ ∙ past c.in_ok-name.ensures.ok _ _ ∙ past c.in_ok-semicolon.ensures.ok _ _ ∙ past c.in_ok-block.ensures.ok _ _ ∙ past c.in_ok-ending.ensures.ok _ _;
 })

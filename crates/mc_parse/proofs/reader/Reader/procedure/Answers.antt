@@ -1,9 +1,10 @@
-use Rattle.std.proofs.Common.{◌∙◌, refl, ap, arith}
+use Rattle.std.proofs.Common.{Option, ◌∙◌, refl, sym, ap, arith}
 use Rattle.mc_parse.specs.Steps.{past, stops, one_rule, handed_on, read_same}
 use Rattle.mc_parse.specs.Only.{procedure_by}
 use Rattle.mc_tree.specs.Grammar.{OneProcedure}
 use Rattle.mc_tree.specs.declared.statement.Statement.TheViews.{roll-out-Body}
 use Rattle.mc_tree.specs.declared.statement.Body.{Body}
+use Rattle.mc_tree.specs.declared.tree.Params.{Params}
 use Rattle.mc_tree.specs.declared.tree.Procedure.{Procedure}
 use Rattle.mc_parse.proofs.reader.Reader.procedure.Goals as goal
 
@@ -37,25 +38,15 @@ returns-in_err-local-clause-refused c = handed_on c.from_residual-in_err-local.r
   refuses = λ h stack. one_rule c.args.self.end OneProcedure c.args.depth stack c.args.rest.now procedure_by refl (omega arith) ∙ past c.in_ok-procedure.ensures.ok _ _ ∙ past c.in_ok-name.ensures.ok _ _ ∙ past c.in_ok-params.ensures.ok _ _ ∙ past c.in_ok-answer.ensures.ok _ _ ∙ past c.in_ok-semicolon.ensures.ok _ _ ∙ stops c.in_err-local.ensures.refused h _ _;
 })
 
-pub returns-in_err-end-clause-refused : goal.returns-in_err-end-clause-refused
-returns-in_err-end-clause-refused c = handed_on c.from_residual-in_err-end.result c.in_err-end.field-0.0 c.from_residual-in_err-end.ensures.1 (record {
-  refuses = λ h stack. one_rule c.args.self.end OneProcedure c.args.depth stack c.args.rest.now procedure_by refl (omega arith) ∙ past c.in_ok-procedure.ensures.ok _ _ ∙ past c.in_ok-name.ensures.ok _ _ ∙ past c.in_ok-params.ensures.ok _ _ ∙ past c.in_ok-answer.ensures.ok _ _ ∙ past c.in_ok-semicolon.ensures.ok _ _ ∙ past c.in_ok-local.ensures.ok _ _ ∙ stops c.in_err-end.ensures.refused h _ _;
-})
-
-pub returns-in_err-end_name-clause-refused : goal.returns-in_err-end_name-clause-refused
-returns-in_err-end_name-clause-refused c = handed_on c.from_residual-in_err-end_name.result c.in_err-end_name.field-0.0 c.from_residual-in_err-end_name.ensures.1 (record {
-  refuses = λ h stack. one_rule c.args.self.end OneProcedure c.args.depth stack c.args.rest.now procedure_by refl (omega arith) ∙ past c.in_ok-procedure.ensures.ok _ _ ∙ past c.in_ok-name.ensures.ok _ _ ∙ past c.in_ok-params.ensures.ok _ _ ∙ past c.in_ok-answer.ensures.ok _ _ ∙ past c.in_ok-semicolon.ensures.ok _ _ ∙ past c.in_ok-local.ensures.ok _ _ ∙ past c.in_ok-end.ensures.ok _ _ ∙ stops c.in_err-end_name.ensures.refused h _ _;
-})
-
-pub returns-in_err-end_semicolon-clause-refused : goal.returns-in_err-end_semicolon-clause-refused
-returns-in_err-end_semicolon-clause-refused c = handed_on c.from_residual-in_err-end_semicolon.result c.in_err-end_semicolon.field-0.0 c.from_residual-in_err-end_semicolon.ensures.1 (record {
-  refuses = λ h stack. one_rule c.args.self.end OneProcedure c.args.depth stack c.args.rest.now procedure_by refl (omega arith) ∙ past c.in_ok-procedure.ensures.ok _ _ ∙ past c.in_ok-name.ensures.ok _ _ ∙ past c.in_ok-params.ensures.ok _ _ ∙ past c.in_ok-answer.ensures.ok _ _ ∙ past c.in_ok-semicolon.ensures.ok _ _ ∙ past c.in_ok-local.ensures.ok _ _ ∙ past c.in_ok-end.ensures.ok _ _ ∙ past c.in_ok-end_name.ensures.ok _ _ ∙ stops c.in_err-end_semicolon.ensures.refused h _ _;
+pub returns-in_err-ending-clause-refused : goal.returns-in_err-ending-clause-refused
+returns-in_err-ending-clause-refused c = handed_on c.from_residual-in_err-ending.result c.in_err-ending.field-0.0 c.from_residual-in_err-ending.ensures.1 (record {
+  refuses = λ h stack. one_rule c.args.self.end OneProcedure c.args.depth stack c.args.rest.now procedure_by refl (omega arith) ∙ past c.in_ok-procedure.ensures.ok _ _ ∙ past c.in_ok-name.ensures.ok _ _ ∙ past c.in_ok-params.ensures.ok _ _ ∙ past c.in_ok-answer.ensures.ok _ _ ∙ past c.in_ok-semicolon.ensures.ok _ _ ∙ past c.in_ok-local.ensures.ok _ _ ∙ stops c.in_err-ending.ensures.refused h _ _;
 })
 
 pub returns-clause-shorter : goal.returns-clause-shorter
-returns-clause-shorter c = omega (arith, c.in_ok-procedure.ensures.shorter, c.in_ok-name.ensures.shorter, c.in_ok-params.ensures.within, c.in_ok-answer.ensures.within, c.in_ok-semicolon.ensures.shorter, c.in_ok-local.ensures.shorter, c.in_ok-end.ensures.shorter, c.in_ok-end_name.ensures.shorter, c.in_ok-end_semicolon.ensures.shorter)
+returns-clause-shorter c = omega (arith, c.in_ok-procedure.ensures.shorter, c.in_ok-name.ensures.shorter, c.in_ok-params.ensures.within, c.in_ok-answer.ensures.within, c.in_ok-semicolon.ensures.shorter, c.in_ok-local.ensures.shorter, c.in_ok-ending.ensures.shorter)
 
 pub returns-clause-ok : goal.returns-clause-ok
-returns-clause-ok c = read_same (ap (λ (z : Body). let p : Procedure = record { procedure = c.in_ok-procedure.procedure.item; name = c.in_ok-name.name.item; params = c.in_ok-params.params.item; answer = c.in_ok-answer.answer.item; semicolon = c.in_ok-semicolon.semicolon.item; local = record { declarations = c.in_ok-local.local.item.declarations; begin = c.in_ok-local.local.item.begin; body = z }; end = c.in_ok-end.end.item; end_name = c.in_ok-end_name.end_name.item; end_semicolon = c.in_ok-end_semicolon.end_semicolon.item } in p) (roll-out-Body c.in_ok-local.local.item.body)) (record {
-  reads = λ stack. one_rule c.args.self.end OneProcedure c.args.depth stack c.args.rest.now procedure_by refl (omega arith) ∙ past c.in_ok-procedure.ensures.ok _ _ ∙ past c.in_ok-name.ensures.ok _ _ ∙ past c.in_ok-params.ensures.ok _ _ ∙ past c.in_ok-answer.ensures.ok _ _ ∙ past c.in_ok-semicolon.ensures.ok _ _ ∙ past c.in_ok-local.ensures.ok _ _ ∙ past c.in_ok-end.ensures.ok _ _ ∙ past c.in_ok-end_name.ensures.ok _ _ ∙ past c.in_ok-end_semicolon.ensures.ok _ _;
+returns-clause-ok c = read_same (ap (λ (z : Body). let p : Procedure = record { procedure = c.in_ok-procedure.procedure.item; name = c.in_ok-name.name.item; params = c.in_ok-params.params.item; answer = c.in_ok-answer.answer.item; semicolon = c.in_ok-semicolon.semicolon.item; local = record { declarations = c.in_ok-local.local.item.declarations; begin = c.in_ok-local.local.item.begin; body = z }; end = c.in_ok-ending.ending.item.end; end_name = c.in_ok-ending.ending.item.name; end_semicolon = c.in_ok-ending.ending.item.mark } in p) (roll-out-Body c.in_ok-local.local.item.body) ∙ ap (λ (o : Option Params). let p : Procedure = record { procedure = c.in_ok-procedure.procedure.item; name = c.in_ok-name.name.item; params = o; answer = c.in_ok-answer.answer.item; semicolon = c.in_ok-semicolon.semicolon.item; local = c.in_ok-local.local.item; end = c.in_ok-ending.ending.item.end; end_name = c.in_ok-ending.ending.item.name; end_semicolon = c.in_ok-ending.ending.item.mark } in p) (sym c.into_inner.ensures)) (record {
+  reads = λ stack. one_rule c.args.self.end OneProcedure c.args.depth stack c.args.rest.now procedure_by refl (omega arith) ∙ past c.in_ok-procedure.ensures.ok _ _ ∙ past c.in_ok-name.ensures.ok _ _ ∙ past c.in_ok-params.ensures.ok _ _ ∙ past c.in_ok-answer.ensures.ok _ _ ∙ past c.in_ok-semicolon.ensures.ok _ _ ∙ past c.in_ok-local.ensures.ok _ _ ∙ past c.in_ok-ending.ensures.ok _ _;
 })

@@ -1,0 +1,11 @@
+mod ArrayLaws
+mod LabelLaws
+mod Maps
+mod NameTables
+mod NoDeclarations
+mod Otherwise
+mod PassLaws
+mod ScopeLaws
+mod Steps
+mod TypeFaults
+mod WholeLaws

@@ -1,0 +1,12 @@
+pub mod Assembled
+pub mod Forms
+pub mod IsKnown
+pub mod Knows
+pub mod NameTables
+pub mod Outcomes
+pub mod Ranks
+pub mod Runs
+pub mod Stands
+pub mod TypeRefusals
+pub mod Views
+pub mod Words
