@@ -1,4 +1,4 @@
 pub mod Quiet
 pub mod Simulation
 pub mod Whole
-pub mod Refused
+pub mod Stages

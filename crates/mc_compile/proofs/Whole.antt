@@ -1,6 +1,6 @@
 -- For each list of moments from the image's opening there is a run that tracks it.
 use Rattle.std.proofs.Common.{◌≡◌, ◌≢◌, ℕ, zero, suc, ◌+◌, ◌*◌, ◌-◌, ◌/◌, ◌%◌, ◌<◌, ◌≤◌, true, List, [], ◌∷◌, length, Some, refl, sym, ap, ◌∙◌, subst, arith, length-append, ◌⊎◌, inl, inr}
-use Rattle.std.specs.Prelude.{Result, Ok, Err, IfOk, slice_index, slice_get, Contains, map}
+use Rattle.std.specs.Prelude.{slice_index, slice_get, Contains, map}
 use Rattle.std.specs.List.{flat_map}
 use Rattle.std.proofs.lemmas.Bool.{false≢true}
 use Rattle.tracking.specs.Simulation.{weaker, Simulated, tracked}
@@ -17,17 +17,13 @@ use Rattle.mc_meaning.specs.Config.{Nested, Config, live, opening_config}
 use Rattle.mc_meaning.specs.Runs.{steps, IsStep, earns}
 use Rattle.mc_meaning.specs.Exclusion.{IsInside, as_foot, as_member, Exclusive}
 use Rattle.mc_straight.specs.declared.form.Put.{Put}
-use Rattle.mc_tree.specs.declared.place.Place.{Place}
-use Rattle.mc_tree.specs.declared.token.Token.{Token}
 use Rattle.mc_tree.specs.declared.tree.Tree.{Tree}
-use Rattle.mc_tree.specs.Sources.{Spells}
 use Rattle.mc_tree.specs.Trees.{tokens_of}
-use Rattle.mc_tree.specs.Programs.{IsTreeOf}
-use Rattle.mc_tree.specs.Unique.{tokens_of-one_tree}
 use Rattle.mc_image.specs.Image.{ImageState}
 use Rattle.mc_straight.specs.Laws.{length-tokens_of, slice_get-variables}
-use Rattle.mc_tree.specs.Laws.{Spells-unique}
-use Rattle.mc_straight.specs.Form.{Straight, IsStraight, IsStraightSource, program_of, size_of}
+use Rattle.mc_straight.specs.Form.{Straight, IsStraight, program_of, size_of}
+use Rattle.mc_prog.specs.Resolved.{Resolved}
+use Rattle.mc_compile.specs.Accepted.{IsParsed, IsAcceptedTree}
 use Rattle.mc_compile.specs.Code.{leave_code, puts_code, code_of, word_bytes, image_of, IsImageOf}
 use Rattle.mc_compile.specs.Tracks.{Bounds, opened, IsAtRest, Agrees, Tracked, Compiled, CompiledFrom}
 use Rattle.mc_compile.proofs.Quiet.{quiet_opening}
@@ -184,18 +180,25 @@ known_each form (put ∷ puts) each = (each 0 put refl, known_each form puts (λ
 known_variables : (tree : Tree) (form : Straight) → IsStraight tree form → AreKnown form form.puts
 known_variables tree form s = known_each form form.puts (slice_get-variables tree form s)
 
+-- an accepted tree has not too many tokens
+pub tokens_within : (tree : Tree) (tokens : ℕ) (program : Resolved) → IsAcceptedTree tree tokens program → 12 * tokens ≤ 20000
+tokens_within tree tokens program a = omega (arith, ap (λ (p : Resolved). p.size) a.faultless.typed.program_is, a.small)
+
 pub has_room : (tree : Tree) (form : Straight) → 12 * length (tokens_of tree) ≤ 20000 → IsStraight tree form → 4096 + length (code_of form) ≤ 28672
 has_room tree form size s = omega (arith, length-code_of form, size, length-tokens_of tree form s)
 
--- a source of the form, and the image of its code
-pub compiled_from : (tokens : List Token) (end : Place) (source : List ℕ) (tree : Tree) (workspace processes : ℕ) (image : ImageState) → 1 ≤ processes → Spells tokens end source → IsTreeOf tree tokens → 12 * length tokens ≤ 20000 → IsImageOf tree image → CompiledFrom source workspace processes image
-compiled_from tokens end source tree workspace processes image one spelled parsed size made =
-    let room = has_room tree made.form (omega (arith, size, ap length parsed.tokens_are)) made.straight in
-    let bounds : Bounds = record { workspace = workspace; processes = processes; size = size_of tokens } in
+-- a source of the form that is accepted, and the image of its code
+pub compiled_from : (source : List ℕ) (tree : Tree) (tokens : ℕ) (program : Resolved) (workspace processes : ℕ) (image : ImageState) → 1 ≤ processes → IsParsed source tree tokens → IsAcceptedTree tree tokens program → IsImageOf tree image → CompiledFrom source workspace processes image
+compiled_from source tree tokens program workspace processes image one parsed accepted made =
+    let count : 12 * length parsed.read ≤ 20000 = omega (arith, parsed.count, tokens_within tree tokens program accepted) in
+    let room = has_room tree made.form (omega (arith, count, ap length parsed.parsed.tokens_are)) made.straight in
+    let bounds : Bounds = record { workspace = workspace; processes = processes; size = size_of parsed.read } in
     let priority = made.straight.straight.priority in
     record {
       form = made.form;
-      accepted = record { tokens = tokens; end = end; spelled = spelled; tree = tree; parsed = parsed; size = size; straight = made.straight };
+      straight = record { tokens = parsed.read; end = parsed.end; spelled = parsed.spelled; tree = tree; parsed = parsed.parsed; size = count; straight = made.straight };
+      program = program;
+      accepted = record { faultless = record { tree = tree; tokens = tokens; parsed = parsed; faultless = accepted.faultless }; small = accepted.small };
       compiled = subst (λ (i : ImageState). Compiled (program_of made.form) bounds i) (sym made.is)
           (compiled made.form bounds one (priority.least, priority.most) room (known_variables tree made.form made.straight));
     }
@@ -210,22 +213,3 @@ blocks_fit content some room =
 
 pub length-bytes : (words : List ℕ) → length (flat_map word_bytes words) ≡ 2 * length words
 length-bytes words = length-word_bytes words
-
--- What a source of the form has, where its tokens are these
-
-only_tokens : (tokens others : List Token) (end last : Place) (source : List ℕ) → Spells tokens end source → Spells others last source → others ≡ tokens
-only_tokens tokens others end last source s t = sym (Spells-unique tokens others end last source s t).0
-
--- it has a tree
-pub its_tree : (tokens : List Token) (end : Place) (source : List ℕ) (form : Straight) → Spells tokens end source → (h : IsStraightSource source form) → IsTreeOf h.tree tokens
-its_tree tokens end source form s h = subst (λ (l : List Token). IsTreeOf h.tree l) (only_tokens tokens h.tokens end h.end source s h.spelled) h.parsed
-
--- and the tree is of the form
-pub its_form : (tokens : List Token) (end : Place) (source : List ℕ) (tree : Tree) (form : Straight) → Spells tokens end source → IsTreeOf tree tokens → IsStraightSource source form → IsStraight tree form
-its_form tokens end source tree form s t h =
-    let other = its_tree tokens end source form s h in
-    subst (λ (u : Tree). IsStraight u form) (tokens_of-one_tree h.tree tree (other.tokens_are ∙ sym t.tokens_are)) h.straight
-
-pub if_ok : {T E : Type 0} (P Q : T → Type 0) (r : Result T E) → ((x : T) → P x → Q x) → IfOk r P → IfOk r Q
-if_ok P Q (Ok x) f h = f x h
-if_ok P Q (Err e) f h = h

@@ -1,2 +1,5 @@
-pub mod Tracks
+pub mod Accepted
 pub mod Code
+pub mod Laws
+pub mod Names
+pub mod Tracks

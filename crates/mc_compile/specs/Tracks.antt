@@ -10,9 +10,11 @@ use Rattle.mc_straight.specs.Form.{Straight, IsStraightSource, program_of, size_
 use Rattle.mc_image.specs.Image.{ImageState}
 use Rattle.pdp_machine.specs.Opening.{image_memory}
 use Rattle.mc_prog.specs.Program.{Program}
+use Rattle.mc_prog.specs.Resolved.{Resolved}
 use Rattle.mc_meaning.specs.Config.{Config, topmost, live, IsNoneReady, opening_config}
 use Rattle.mc_meaning.specs.Runs.{Step, config_after, IsRun, earns, IsTrapped}
 use Rattle.mc_meaning.specs.Exclusion.{Exclusive, OverWorkspace, OverRoom}
+use Rattle.mc_compile.specs.Accepted.{IsAccepted}
 
 -- the size of a workspace in words, how many processes may exist at once, and the size of the source in words
 pub record Bounds : Type 0 where
@@ -73,9 +75,11 @@ abbrev pub Compiled : Program → Bounds → ImageState → Type 0
 Compiled program bounds image =
     (moments : List Moment) → ArePossible (opened image) moments → Tracking (Tracked program bounds image) moments
 
--- an image whose runs are runs of the program that a source stands for, with workspaces of so many words and at most so
--- many processes
+-- an image whose runs are runs of the program that an accepted source stands for, with workspaces of so many words and at
+-- most so many processes
 pub record CompiledFrom (source : List ℕ) (workspace processes : ℕ) (image : ImageState) : Type 0 where
   pub form : Straight
-  pub accepted : IsStraightSource source form
-  pub compiled : Compiled (program_of form) (record { workspace = workspace; processes = processes; size = size_of accepted.tokens }) image
+  pub straight : IsStraightSource source form
+  pub program : Resolved
+  pub accepted : IsAccepted source program
+  pub compiled : Compiled (program_of form) (record { workspace = workspace; processes = processes; size = size_of straight.tokens }) image

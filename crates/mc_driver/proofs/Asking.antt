@@ -8,10 +8,11 @@ use Rattle.mc_words.specs.Settings.{Numbers, AnswersSettings, AnswersSettings-un
 use Rattle.mc_image.specs.Image.{ImageState}
 use Rattle.mc_image.specs.Format.{IsImage}
 use Rattle.mc_image.specs.Laws.{IsImage-unique, IsImage-no_fault}
+use Rattle.mc_compile.specs.Laws.{compiled_no_fault, compiled_not_large}
 use Rattle.mc_compile.specs.Tracks.{CompiledFrom}
 use Rattle.mc_driver.specs.declared.files.FileKind.{FileKind}
 use Rattle.mc_driver.specs.Outside.{View, BeginsWith, AsksPart, asks_all}
-use Rattle.mc_driver.specs.Answer.{most, AfterLoad, long_file, loaded, AfterImage, no_image, an_image, AfterReadingSettings, no_settings, some_settings, AfterCompiling, refused, saves}
+use Rattle.mc_driver.specs.Answer.{most, AfterLoad, long_file, loaded, AfterImage, no_image, an_image, AfterReadingSettings, no_settings, some_settings, AfterCompiling, no_image_for_fault, no_image_for_size, no_image_yet, saves}
 
 -- nothing more is asked
 pub asks_none : (asked : Option (List Ask)) → asked ≡ asks_all asked []
@@ -114,5 +115,9 @@ settings_back bytes numbers Next asked status text is (some_settings others also
 
 -- a source that is compiled is saved
 pub compiled_first : (source : List ℕ) (settings : Numbers) (name : List ℕ) (image : ImageState) (files after : Files) (asked : List Ask) (status : ℕ) (text : List ℕ) → CompiledFrom source settings.workspace_words settings.processes image → AfterCompiling source settings name files after asked status text → BeginsWith asked (Save name ∷ [])
-compiled_first source settings name image files after asked status text made (refused none e line) = absurd (none made.form made.accepted)
+compiled_first source settings name image files after asked status text made (no_image_for_fault fault has e line) =
+    absurd (compiled_no_fault source settings.workspace_words settings.processes image made fault has)
+compiled_first source settings name image files after asked status text made (no_image_for_size large e line) =
+    absurd (compiled_not_large source settings.workspace_words settings.processes image made large)
+compiled_first source settings name image files after asked status text made (no_image_yet other e line) = absurd (other.no_form made.form made.straight)
 compiled_first source settings name image files after asked status text made (saves other also saved) = record { rest = []; parts = saved.one_ask }

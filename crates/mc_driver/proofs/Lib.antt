@@ -4,3 +4,4 @@ pub mod Streams
 pub mod Asking
 pub mod Endings
 pub mod Saving
+pub mod Refused

@@ -15,12 +15,14 @@ use Rattle.mc_image.specs.Faults.{HasFirstFault}
 use Rattle.mc_script.specs.declared.fault.ScriptFault.{ScriptFault}
 use Rattle.mc_script.specs.Script.{ScriptState}
 use Rattle.mc_script.specs.Texts.{IsText, HasFirstFault as HasFirstFaultInScript}
-use Rattle.mc_straight.specs.Form.{Straight, IsStraightSource}
+use Rattle.mc_tree.specs.declared.fault.Fault.{Fault}
+use Rattle.mc_prog.specs.Resolved.{Resolved}
+use Rattle.mc_compile.specs.Accepted.{IsAccepted, IsTooLarge, IsSourceFault, IsNotBuilt}
 use Rattle.mc_compile.specs.Tracks.{CompiledFrom}
 use Rattle.mc_driver.specs.declared.files.FileKind.{FileKind}
 use Rattle.mc_driver.specs.declared.files.FileKind.TheVariants.{Source, Script, Image, Settings}
 use Rattle.mc_driver.specs.declared.ending.Origin.TheVariants.{Foreign}
-use Rattle.mc_driver.specs.Refusal.{image_line, script_line, setting_line}
+use Rattle.mc_driver.specs.Refusal.{image_line, script_line, setting_line, source_line, IsLine}
 use Rattle.mc_driver.specs.Run.{IsReport, IsRunOf}
 
 -- How many bytes a file has at most.
@@ -35,10 +37,6 @@ too_long_line Source = codes "too long source\n"
 too_long_line Script = codes "too long script\n"
 too_long_line Image = codes "too long image\n"
 too_long_line Settings = codes "too long settings\n"
-
--- one line, with a status
-abbrev pub IsLine : ℕ → List ℕ → ℕ → List ℕ → Type 0
-IsLine code line status text = (status ≡ code) × (text ≡ line)
 
 -- A last step: it asks for nothing.
 abbrev pub AsksNothing : (ℕ → List ℕ → Type 0) → List Ask → ℕ → List ℕ → Type 0
@@ -73,9 +71,11 @@ abbrev pub AfterSettings : Option (List ℕ) → (Numbers → List Ask → ℕ �
 AfterSettings None Next files = Next usual
 AfterSettings (Some name) Next files = AfterLoad Settings name (λ bytes. AfterReadingSettings bytes Next) files
 
--- A source is not of a form that is compiled today, or its program runs.
+-- A source has a fault, or is too large, or is accepted and not of a form that is compiled today, or its program runs.
 pub data AfterSource (source : List ℕ) (settings : Numbers) (journal : Bool) (script : ScriptState) (status : ℕ) (text : List ℕ) : Type 0 where
-  no_source : ((form : Straight) → IsStraightSource source form → ⊥) → IsLine 15 (codes "not yet source\n") status text → AfterSource source settings journal script status text
+  has_fault : (fault : Fault) → IsSourceFault source fault → IsLine 2 (source_line fault) status text → AfterSource source settings journal script status text
+  is_too_large : IsTooLarge source → IsLine 13 (codes "too large\n") status text → AfterSource source settings journal script status text
+  not_built : IsNotBuilt source → IsLine 15 (codes "not yet source\n") status text → AfterSource source settings journal script status text
   runs : IsRunOf source settings script journal status text → AfterSource source settings journal script status text
 
 -- `run` under settings: the source is loaded, the script is loaded and read, the source is compiled, and its image runs
@@ -112,9 +112,12 @@ pub record IsSaved (name bytes : List ℕ) (files after : Files) (asked : List A
   pub saved : after ≡ with_file files name bytes
   pub said : IsLine 0 (codes "image " ++ decimal (length bytes) ++ codes "\n") status text
 
--- A source is not of a form that is compiled today, and nothing is asked, or the bytes of its image are saved.
+-- A source has a fault, or is too large, or is accepted and not of a form that is compiled today, and nothing is asked; or the
+-- bytes of its image are saved.
 pub data AfterCompiling (source : List ℕ) (settings : Numbers) (name : List ℕ) (files after : Files) (asked : List Ask) (status : ℕ) (text : List ℕ) : Type 0 where
-  refused : ((form : Straight) → IsStraightSource source form → ⊥) → asked ≡ [] → IsLine 15 (codes "not yet source\n") status text → AfterCompiling source settings name files after asked status text
+  no_image_for_fault : (fault : Fault) → IsSourceFault source fault → asked ≡ [] → IsLine 2 (source_line fault) status text → AfterCompiling source settings name files after asked status text
+  no_image_for_size : IsTooLarge source → asked ≡ [] → IsLine 13 (codes "too large\n") status text → AfterCompiling source settings name files after asked status text
+  no_image_yet : IsNotBuilt source → asked ≡ [] → IsLine 15 (codes "not yet source\n") status text → AfterCompiling source settings name files after asked status text
   saves : (image : ImageState) → CompiledFrom source settings.workspace_words settings.processes image → IsSaved name (image_bytes image) files after asked status text → AfterCompiling source settings name files after asked status text
 
 -- `compile` under settings: the source is loaded and compiled, and its image is saved
@@ -127,13 +130,23 @@ abbrev pub IsCompileAnswer : List ℕ → List ℕ → Option (List ℕ) → Fil
 IsCompileAnswer source image settings =
     SavesWhenDone (λ files after. AfterSettings settings (λ numbers. IsCompiledUnder source image numbers files after) files)
 
+-- A source has a fault, or is too large, or is accepted.
+pub data AfterChecking (source : List ℕ) (status : ℕ) (text : List ℕ) : Type 0 where
+  fails_check : (fault : Fault) → IsSourceFault source fault → IsLine 2 (source_line fault) status text → AfterChecking source status text
+  exceeds_size : IsTooLarge source → IsLine 13 (codes "too large\n") status text → AfterChecking source status text
+  passes : (program : Resolved) → IsAccepted source program → IsLine 0 (codes "ok\n") status text → AfterChecking source status text
+
+-- `check`: the source is loaded, and goes through all stages
+abbrev pub IsCheckAnswer : List ℕ → Files → List Ask → ℕ → List ℕ → Type 0
+IsCheckAnswer source files = AfterLoad Source source (λ bytes. AsksNothing (AfterChecking bytes)) files
+
 -- what is answered to a command, or where there is none, with these files before and after it, and these loads and saves
 abbrev pub AnswersTo : Option Order → Files → Files → List Ask → ℕ → List ℕ → Type 0
 AnswersTo None = SavesNothing (λ files. AsksNothing (IsLine 1 (codes "words\n")))
 AnswersTo (Some (Run source script settings journal)) = SavesNothing (IsRunAnswer source script settings journal)
 AnswersTo (Some (Compile source image settings)) = IsCompileAnswer source image settings
 AnswersTo (Some (Exec image script journal)) = SavesNothing (IsExecAnswer image script journal)
-AnswersTo (Some (Check source)) = SavesNothing (λ files. AsksNothing (IsLine 15 (codes "not yet words\n")))
+AnswersTo (Some (Check source)) = SavesNothing (IsCheckAnswer source)
 AnswersTo (Some (Generate n)) = SavesNothing (λ files. AsksNothing (IsLine 15 (codes "not yet words\n")))
 AnswersTo (Some (OwnRun n)) = SavesNothing (λ files. AsksNothing (IsLine 15 (codes "not yet words\n")))
 
@@ -152,7 +165,7 @@ asks_of None = []
 asks_of (Some (Run source script settings journal)) = settings_load settings ++ Load source ∷ Load script ∷ []
 asks_of (Some (Compile source image settings)) = settings_load settings ++ Load source ∷ Save image ∷ []
 asks_of (Some (Exec image script journal)) = Load image ∷ Load script ∷ []
-asks_of (Some (Check source)) = []
+asks_of (Some (Check source)) = Load source ∷ []
 asks_of (Some (Generate n)) = []
 asks_of (Some (OwnRun n)) = []
 

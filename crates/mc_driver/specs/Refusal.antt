@@ -1,5 +1,10 @@
--- The lines in which an image, a script or settings are refused: a noun, a place where there is one, and a name.
-use Rattle.std.specs.Prelude.{ℕ, List, [], ◌++◌, codes, decimal, Option, Some, None}
+-- The lines in which a source, an image, a script or settings are refused: a noun, a place where there is one, and a name.
+use Rattle.std.specs.Prelude.{◌≡◌, ℕ, List, [], ◌++◌, codes, decimal, Option, Some, None}
+use Rattle.mc_tree.specs.declared.fault.Code.{Code}
+use Rattle.mc_tree.specs.declared.fault.Code.TheVariants as code
+use Rattle.mc_tree.specs.declared.fault.Fault.{Fault}
+use Rattle.mc_compile.specs.declared.refusal.Refusal.{Refusal}
+use Rattle.mc_compile.specs.declared.refusal.Refusal.TheVariants.{Source, TooLarge, NotYet, Memory}
 use Rattle.mc_image.specs.declared.fault.ImageFault.{ImageFault}
 use Rattle.mc_image.specs.declared.fault.ImageFault.TheVariants.{BadHeader, Truncated, BadCount, BadSum, OutOfMemoryRange, Overlap, NoStart, Trailing, Memory as ImageMemory}
 use Rattle.mc_words.specs.declared.setting_fault.SettingFault.{SettingFault}
@@ -65,3 +70,50 @@ setting_fault_name SettingMemory = codes "Memory"
 
 abbrev pub setting_line : SettingFault → List ℕ
 setting_line fault = codes "settings " ++ setting_fault_name fault ++ codes "\n"
+
+-- the name of a fault's code
+abbrev pub code_name : Code → List ℕ
+code_name code.BadByte = codes "BadByte"
+code_name code.NumberTooLarge = codes "NumberTooLarge"
+code_name code.OpenComment = codes "OpenComment"
+code_name code.OpenText = codes "OpenText"
+code_name code.Unexpected = codes "Unexpected"
+code_name code.TooDeep = codes "TooDeep"
+code_name code.S1 = codes "S1"
+code_name code.S2 = codes "S2"
+code_name code.S3 = codes "S3"
+code_name code.S4 = codes "S4"
+code_name code.S5 = codes "S5"
+code_name code.Y1 = codes "Y1"
+code_name code.Y2 = codes "Y2"
+code_name code.Y3 = codes "Y3"
+code_name code.Y4 = codes "Y4"
+code_name code.Y5 = codes "Y5"
+code_name code.Y6 = codes "Y6"
+code_name code.Y7 = codes "Y7"
+code_name code.Y8 = codes "Y8"
+code_name code.M1 = codes "M1"
+code_name code.M2 = codes "M2"
+code_name code.M3 = codes "M3"
+code_name code.M4 = codes "M4"
+code_name code.M5 = codes "M5"
+code_name code.M6 = codes "M6"
+code_name code.M7 = codes "M7"
+code_name code.M8 = codes "M8"
+code_name code.M9 = codes "M9"
+code_name code.M10 = codes "M10"
+
+-- the line and the column of the fault, both from 1, and its code
+abbrev pub source_line : Fault → List ℕ
+source_line fault = codes "source " ++ decimal fault.place.line ++ codes " " ++ decimal fault.place.column ++ codes " " ++ code_name fault.code ++ codes "\n"
+
+-- one line, with a status
+abbrev pub IsLine : ℕ → List ℕ → ℕ → List ℕ → Type 0
+IsLine code line status text = (status ≡ code) × (text ≡ line)
+
+-- what is said of a source that is refused, and the status; want of memory is never said
+abbrev pub IsSaid : Refusal → ℕ → List ℕ → Type 0
+IsSaid (Source code place) = IsLine 2 (source_line (record { code = code; place = place }))
+IsSaid TooLarge = IsLine 13 (codes "too large\n")
+IsSaid NotYet = IsLine 15 (codes "not yet source\n")
+IsSaid Memory = λ status text. ⊥

@@ -121,4 +121,4 @@ pub record IsRunOf (source : List ℕ) (settings : Numbers) (script : ScriptStat
   pub image : ImageState
   pub compiled : CompiledFrom source settings.workspace_words settings.processes image
   pub report : IsReport CompiledOrigin journal image script status text
-  pub meaning : IsRunOfProgram (program_of compiled.form) (record { workspace = settings.workspace_words; processes = settings.processes; size = size_of compiled.accepted.tokens }) image script
+  pub meaning : IsRunOfProgram (program_of compiled.form) (record { workspace = settings.workspace_words; processes = settings.processes; size = size_of compiled.straight.tokens }) image script

@@ -3,8 +3,10 @@
 ghost use Rattle.std.specs.Prelude.{◌≡◌, ◌≢◌, Some, None, [], map, codes, string_bytes};
 ghost use Rattle.mc_words.specs.Commands.{order_of, command_of};
 ghost use Rattle.mc_driver.specs.Outside.{view, EndsSaving};
-ghost use Rattle.mc_driver.specs.Answer.{AsksNothing, IsLine, SavesNothing, AnswersTo, IsAnswer, IsRun, asks_of, target_of};
+ghost use Rattle.mc_driver.specs.Refusal.{IsLine};
+ghost use Rattle.mc_driver.specs.Answer.{AsksNothing, SavesNothing, AnswersTo, IsAnswer, IsRun, asks_of, target_of};
 
+use crate::check::check;
 use crate::compile::compile;
 use crate::files::say;
 use crate::run::{exec, run};
@@ -43,19 +45,20 @@ fn obey<S: Shelf>(alloc: Global, command: Command, shelf: &mut S) -> u8
             image,
             settings,
         } => compile(alloc, source, image, settings, shelf),
-        Command::Check { .. } => not_yet(shelf),
+        Command::Check { source } => check(alloc, source, shelf),
         Command::Generate { .. } => not_yet(shelf),
         Command::OwnRun { .. } => not_yet(shelf),
     }
 }
 
 /// Does what the words of a command ask of a shelf. `run SOURCE SCRIPT` compiles the source, runs its image under the
-/// script, and prints the report; `compile SOURCE IMAGE` saves the image; `exec IMAGE SCRIPT` runs an image. Answers a
-/// status: 0 where every process ended or the image was saved, 1 where the words are no command, 3 where the script is
-/// refused, 4 where the image is refused, 5 after a trap, 6 where some process has not ended and nothing can happen any
-/// more, 7 where the limit was reached, 8 where a foreign image stopped, 9 after a workspace check, 10 where the settings
-/// are refused, 11 where the outside failed, 12 for want of memory, 14 where a file is too long, and 15 where the command
-/// or the form of the source is not built yet.
+/// script, and prints the report; `compile SOURCE IMAGE` saves the image; `exec IMAGE SCRIPT` runs an image; `check SOURCE`
+/// says whether a source is accepted. Answers a status: 0 where every process ended, the image was saved or the source is
+/// accepted, 1 where the words are no command, 2 where the source has a fault, 3 where the script is refused, 4 where the
+/// image is refused, 5 after a trap, 6 where some process has not ended and nothing can happen any more, 7 where the limit
+/// was reached, 8 where a foreign image stopped, 9 after a workspace check, 10 where the settings are refused, 11 where the
+/// outside failed, 12 for want of memory, 13 where the source is too large, 14 where a file is too long, and 15 where the
+/// command or the form of the source is not built yet.
 pub fn modula<S: Shelf>(alloc: Global, words: &[String], shelf: &mut S) -> u8
     // What is answered, asked, printed and saved, and why.
     ensures ends { EndsSaving (view (S.files shelf.old) (S.printed shelf.old) (S.asked shelf.old) (S.spare shelf.old) (S.faults shelf.old) (S.longs shelf.old)) (asks_of (command_of (map string_bytes words.now))) (target_of (command_of (map string_bytes words.now))) (IsAnswer (map string_bytes words.now)) result (view (S.files shelf.new) (S.printed shelf.new) (S.asked shelf.new) (S.spare shelf.new) (S.faults shelf.new) (S.longs shelf.new)) }

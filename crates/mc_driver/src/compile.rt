@@ -1,19 +1,20 @@
 // The command `compile`, and the image that `run` runs.
 
-ghost use Rattle.std.specs.Prelude.{◌≡◌, ◌≤◌, ◌<◌, ◌^◌, ℕ, [], ◌∷◌, ◌++◌, length, codes, decimal, Option, Some, option_map, IfOk, IsErrOf};
+ghost use Rattle.std.specs.Prelude.{◌≡◌, ◌≤◌, ◌<◌, ◌^◌, ℕ, [], ◌∷◌, ◌++◌, length, codes, decimal, Option, Some, option_map, IfOk, IfErr};
 ghost use Rattle.mc_shelf.specs.declared.ask.Ask.{Ask};
-ghost use Rattle.mc_straight.specs.Form.{Straight, IsStraightSource};
 ghost use Rattle.mc_image.specs.Image.{ImageState};
 ghost use Rattle.mc_image.specs.Format.{IsImage, image_bytes};
+ghost use Rattle.mc_compile.specs.Accepted.{IsNotCompiled};
 ghost use Rattle.mc_compile.specs.Tracks.{CompiledFrom};
 ghost use Rattle.mc_words.specs.Settings.{numbers_of};
 ghost use Rattle.mc_driver.specs.Outside.{view, EndsSaving};
 ghost use Rattle.mc_driver.specs.Answer.{SavesWhenDone, IsSaved, AfterCompiling, IsCompiledUnder, IsCompileAnswer, settings_load};
 
-use crate::files::{FileKind, USUAL, load, load_settings, say};
-use crate::status::{DONE, FAILED, NO_MEMORY, NOT_YET};
+use crate::files::{FileKind, USUAL, load, load_settings, refuse, say};
+use crate::status::{DONE, FAILED, NO_MEMORY};
 use arrayvec::ArrayVec;
-use mc_compile::compile::{Refusal, compile as compile_source};
+use mc_compile::compile::compile as compile_source;
+use mc_compile::refusal::Refusal;
 use mc_image::fault::ImageFault;
 use mc_image::image::Image;
 use mc_image::{read_image, write_image};
@@ -26,30 +27,34 @@ use std::alloc::Global;
 fn compiled_bytes(alloc: Global, source: &[u8], settings: Settings) -> Result<Vec<u8>, Refusal>
     requires { length source.now ≤ 262144 }
     ensures ok { IfOk result (λ bytes. (i : ImageState) × CompiledFrom source.now settings.workspace_words settings.processes i × (bytes.items ≡ image_bytes i) × IsImage bytes.items i) }
-    ensures not_yet { IsErrOf result Refusal.NotYet → (form : Straight) → IsStraightSource source.now form → ⊥ }
+    ensures refused { IfErr result (λ refusal. IsNotCompiled source.now refusal) }
 {
-    let image = compile_source(alloc, source, settings)?;
-    Ok(write_image(alloc, &image)?)
+    match compile_source(alloc, source, settings) {
+        Ok(image) => Ok(write_image(alloc, &image)?),
+        Err(refusal) => Err(refusal),
+    }
 }
 
 /// Compiles a source, and reads its image from the bytes that are written of it.
 ///
 /// # Errors
 ///
-/// `NotYet` where the source is not of the form that is compiled today, and `Memory`.
+/// The refusal of the source, and `Memory`.
 pub fn image_of(alloc: Global, source: &[u8], settings: Settings) -> Result<Image, Refusal>
     requires { length source.now ≤ 262144 }
     ensures ok { IfOk result (λ i. CompiledFrom source.now settings.workspace_words settings.processes i) }
-    ensures not_yet { IsErrOf result Refusal.NotYet → (form : Straight) → IsStraightSource source.now form → ⊥ }
+    ensures refused { IfErr result (λ refusal. IsNotCompiled source.now refusal) }
 {
-    let bytes = compiled_bytes(alloc, source, settings)?;
-    match read_image(alloc, bytes.as_slice()) {
-        Ok(image) => Ok(image),
-        // What was written is an image, so it has no fault.
-        Err(fault) => match fault {
-            ImageFault::Memory => Err(Refusal::Memory),
-            _ => unreachable!(),
+    match compiled_bytes(alloc, source, settings) {
+        Ok(bytes) => match read_image(alloc, bytes.as_slice()) {
+            Ok(image) => Ok(image),
+            // What was written is an image, so it has no fault.
+            Err(fault) => match fault {
+                ImageFault::Memory => Err(Refusal::Memory),
+                _ => unreachable!(),
+            },
         },
+        Err(refusal) => Err(refusal),
     }
 }
 
@@ -88,8 +93,7 @@ fn save_image<S: Shelf>(
 {
     match compiled_bytes(alloc, source, settings) {
         Ok(bytes) => save(image, bytes.as_slice(), shelf),
-        Err(Refusal::NotYet) => say(shelf, b"not yet source\n", NOT_YET),
-        Err(Refusal::Memory) => NO_MEMORY,
+        Err(refusal) => refuse(refusal, shelf),
     }
 }
 

@@ -6,10 +6,15 @@ ghost use Rattle.mc_words.specs.Settings.{AnswersSettings, numbers_of};
 ghost use Rattle.mc_image.specs.Format.{IsImage};
 ghost use Rattle.mc_script.specs.Texts.{IsText};
 ghost use Rattle.mc_driver.specs.Outside.{view, Loaded, Unloaded, Says, Ends};
-ghost use Rattle.mc_driver.specs.Answer.{most, too_long_line, AfterLoad, AfterImage, AfterScript, AfterReadingSettings};
+ghost use Rattle.mc_driver.specs.Refusal.{IsSaid};
+ghost use Rattle.mc_driver.specs.Answer.{most, too_long_line, AsksNothing, AfterLoad, AfterImage, AfterScript, AfterReadingSettings};
 
-use crate::refusal::{image_line, script_line, setting_line};
-use crate::status::{BAD_IMAGE, BAD_SCRIPT, BAD_SETTINGS, FAILED, NO_MEMORY, TOO_LONG};
+use crate::refusal::{image_line, script_line, setting_line, source_line};
+use crate::status::{
+    BAD_IMAGE, BAD_SCRIPT, BAD_SETTINGS, BAD_SOURCE, FAILED, NO_MEMORY, NOT_YET, TOO_LARGE,
+    TOO_LONG,
+};
+use mc_compile::refusal::Refusal;
 use mc_image::image::Image;
 use mc_image::read_image;
 use mc_script::read_script;
@@ -71,6 +76,19 @@ pub fn say<S: Shelf>(shelf: &mut S, line: &[u8], status: u8) -> u8
         Ok(()) => status,
         Err(PutFault::Failed) => FAILED,
         Err(PutFault::Memory) => NO_MEMORY,
+    }
+}
+
+/// Says why a source is refused.
+pub fn refuse<S: Shelf>(refusal: Refusal, shelf: &mut S) -> u8
+    ensures ends { Ends (view (S.files shelf.old) (S.printed shelf.old) (S.asked shelf.old) (S.spare shelf.old) (S.faults shelf.old) (S.longs shelf.old)) [] (λ files. AsksNothing (IsSaid refusal)) result (view (S.files shelf.new) (S.printed shelf.new) (S.asked shelf.new) (S.spare shelf.new) (S.faults shelf.new) (S.longs shelf.new)) }
+    ensures own { result ≢ 8 }
+{
+    match refusal {
+        Refusal::Source(code, place) => say(shelf, source_line(code, place).as_slice(), BAD_SOURCE),
+        Refusal::TooLarge => say(shelf, b"too large\n", TOO_LARGE),
+        Refusal::NotYet => say(shelf, b"not yet source\n", NOT_YET),
+        Refusal::Memory => NO_MEMORY,
     }
 }
 

@@ -1,6 +1,7 @@
 // The top call: a command's words, the outside, and what is answered.
 #![tactic(auto)]
 
+mod check;
 mod command;
 mod compile;
 mod drive;

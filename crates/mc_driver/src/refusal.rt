@@ -1,12 +1,14 @@
-// The lines in which an image or a script is refused. Their form is this project's own.
+// The lines in which a source, an image, a script or settings are refused. Their form is this project's own.
 
 ghost use Rattle.std.specs.Prelude.{◌≡◌, ◌≢◌, ◌≤◌, ◌++◌, length, codes, MatchOption};
-ghost use Rattle.mc_driver.specs.Refusal.{place_text, image_place, image_fault_name, image_line, script_place, script_fault_name, script_line, setting_fault_name, setting_line};
+ghost use Rattle.mc_driver.specs.Refusal.{place_text, image_place, image_fault_name, image_line, code_name, source_line, script_place, script_fault_name, script_line, setting_fault_name, setting_line};
 
 use arrayvec::ArrayVec;
 use mc_image::fault::ImageFault;
 use mc_report::digits::{decimal_digits, put};
 use mc_script::fault::ScriptFault;
+use mc_tree::fault::Code;
+use mc_tree::place::Place;
 use mc_words::SettingFault;
 
 // The place of an image's fault, in bytes from 0, where it has one.
@@ -126,4 +128,59 @@ pub fn setting_line(fault: SettingFault) -> Option<ArrayVec<u8, 64>>
         return None;
     }
     Some(line_of(b"settings ", None, setting_fault_name(fault)))
+}
+
+fn code_name(code: Code) -> &'static [u8]
+    ensures value { result.now ≡ code_name code }
+    ensures short { length result.now ≤ 14 }
+{
+    match code {
+        Code::BadByte => b"BadByte",
+        Code::NumberTooLarge => b"NumberTooLarge",
+        Code::OpenComment => b"OpenComment",
+        Code::OpenText => b"OpenText",
+        Code::Unexpected => b"Unexpected",
+        Code::TooDeep => b"TooDeep",
+        Code::S1 => b"S1",
+        Code::S2 => b"S2",
+        Code::S3 => b"S3",
+        Code::S4 => b"S4",
+        Code::S5 => b"S5",
+        Code::Y1 => b"Y1",
+        Code::Y2 => b"Y2",
+        Code::Y3 => b"Y3",
+        Code::Y4 => b"Y4",
+        Code::Y5 => b"Y5",
+        Code::Y6 => b"Y6",
+        Code::Y7 => b"Y7",
+        Code::Y8 => b"Y8",
+        Code::M1 => b"M1",
+        Code::M2 => b"M2",
+        Code::M3 => b"M3",
+        Code::M4 => b"M4",
+        Code::M5 => b"M5",
+        Code::M6 => b"M6",
+        Code::M7 => b"M7",
+        Code::M8 => b"M8",
+        Code::M9 => b"M9",
+        Code::M10 => b"M10",
+    }
+}
+
+/// `source LINE COLUMN CODE`.
+pub fn source_line(code: Code, place: Place) -> ArrayVec<u8, 64>
+    ensures { result.items ≡ source_line (record { code = code; place = place }) }
+{
+    let mut line = ArrayVec::new();
+    put(&mut line, b"source ");
+    put(&mut line, decimal_digits(u64::from(place.line)).as_slice());
+    put(&mut line, b" ");
+    put(
+        &mut line,
+        decimal_digits(u64::from(place.column)).as_slice(),
+    );
+    put(&mut line, b" ");
+    put(&mut line, code_name(code));
+    put(&mut line, b"\n");
+    line
 }

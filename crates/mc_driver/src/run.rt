@@ -11,9 +11,8 @@ ghost use Rattle.mc_driver.specs.Answer.{AsksNothing, AfterSource, IsRunUnder, I
 use crate::compile::image_of;
 use crate::drive::print_report;
 use crate::ending::{Origin, status_of};
-use crate::files::{FileKind, USUAL, load, load_image, load_script, load_settings, say};
-use crate::status::{FAILED, NO_MEMORY, NOT_YET};
-use mc_compile::compile::Refusal;
+use crate::files::{FileKind, USUAL, load, load_image, load_script, load_settings, refuse};
+use crate::status::{FAILED, NO_MEMORY};
 use mc_image::image::Image;
 use mc_report::pieces::Pieces;
 use mc_script::script::Script;
@@ -63,8 +62,7 @@ fn run_source<S: Shelf>(
 {
     match image_of(alloc, source, settings) {
         Ok(image) => play(alloc, &image, script, Origin::Compiled, journal, shelf),
-        Err(Refusal::NotYet) => say(shelf, b"not yet source\n", NOT_YET),
-        Err(Refusal::Memory) => NO_MEMORY,
+        Err(refusal) => refuse(refusal, shelf),
     }
 }
 

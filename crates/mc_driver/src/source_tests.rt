@@ -1,533 +1,309 @@
-// The parser and the scopes on whole sources. The places were counted by hand.
+// Sources: which are of the form that runs, and what is said of all others.
 
-use mc_parse::{ParseFault, parse};
-use mc_prog::scoped::Scoped;
-use mc_resolve::{ResolveFault, resolve};
-use mc_scan::{Scanned, scan};
-use mc_tree::fault::{Code, Fault};
-use mc_tree::place::Place;
-use mc_tree::tree::Tree;
-use mc_word::bytes::Memory;
+use crate::modula;
+use crate::tests::{PRINTS_A, shelf, words};
 use std::alloc::Global;
 use std::test::Fail;
 
-/// Sources of the parser, each with the code and the column of its fault; none is a tree.
-const PROGRAMS: [(&str, Option<(Code, u32)>); 21] = [
-    (
-        "module m; begin x := -a * b.c[1, 2] + f(x, 'y') <= [1, 2:3] or not [] end m.",
-        None,
-    ),
-    ("module m; begin ; x[1].y := (a); p; q(1); ; end m.", None),
-    ("module m; begin x := end m.", Some((Code::Unexpected, 22))),
-    (
-        "module m; begin x := a = b = c end m.",
-        Some((Code::Unexpected, 28)),
-    ),
-    ("module m; begin x.y end m.", Some((Code::Unexpected, 21))),
-    (
-        "module m; begin x := f(a) (b) end m.",
-        Some((Code::Unexpected, 27)),
-    ),
-    (
-        "module m; begin x := [1,] end m.",
-        Some((Code::Unexpected, 25)),
-    ),
-    (
-        "module m; begin if a then b elsif c then d; e else f end; while a do b end; repeat a until b end m.",
-        None,
-    ),
-    (
-        "module m; begin loop a when b do c exit d when e exit end; case a of 1, 2: begin b end; 3: begin end end end m.",
-        None,
-    ),
-    (
-        "module m; begin if a else b end end m.",
-        Some((Code::Unexpected, 22)),
-    ),
-    (
-        "module m; begin case a of end end m.",
-        Some((Code::Unexpected, 27)),
-    ),
-    (
-        "module m; const a = 1; b = 2; type t = (x, y); u = array 1:2, 3:4 of record a, b: t; c: u end; var v, w: t; begin end m.",
-        None,
-    ),
-    (
-        "module m; procedure p(const a, b: t; var c: u; d: t): t; var x: t; begin end p; process q; begin end q; end m.",
-        None,
-    ),
-    (
-        "module m; interface module i; define a; use b, c; procedure p; begin end p; begin end i; module j; module k; end k; end j; end m.",
-        None,
-    ),
-    (
-        "device module m [4]; var a [1], b: t; process d [2]; begin end d; begin end m.",
-        None,
-    ),
-    (
-        "module m; device module d [4]; use x; process p [1]; begin doio end p; end d; end m.",
-        None,
-    ),
-    (
-        "module m; var x integer; begin end m.",
-        Some((Code::Unexpected, 17)),
-    ),
-    ("module m; begin end m", Some((Code::Unexpected, 22))),
-    ("module m; begin end m. x", Some((Code::Unexpected, 24))),
-    (
-        "device module m [4]; module n; end n; end m.",
-        Some((Code::Unexpected, 22)),
-    ),
-    ("", Some((Code::Unexpected, 1))),
-];
+/// With a text of one byte, an octal character and a character, and a comment behind two of the statements.
+const WRITES: &str = "(* two devices *)
+device module writer [7];
+var
+  printer [177566B]: char;
+  punch [177556B]: char;
+begin
+  printer := \"H\";   (* is printed *)
+  punch := 102C;    (* the letter B *)
+  printer := 'i'    (* comes too early, and is lost *)
+end writer.
+";
 
-/// Sources of the scopes, likewise.
-const SCOPES: [(&str, Option<(Code, u32)>); 73] = [
-    ("module m; begin x := 1 end m.", Some((Code::S1, 17))),
-    ("module m; var x: integer; begin x := 1 end m.", None),
-    ("module m; begin m := 1 end m.", Some((Code::S1, 17))),
-    (
-        "module m; module n; end n; begin n := 1 end m.",
-        Some((Code::S1, 34)),
-    ),
-    ("module m; var x: t; begin end m.", Some((Code::S1, 18))),
-    (
-        "module m; module n; use x; end n; var x: integer; begin end m.",
-        Some((Code::S1, 25)),
-    ),
-    (
-        "module m; module n; use n; end n; begin end m.",
-        Some((Code::S1, 25)),
-    ),
-    (
-        "module m; var x: integer; module n; module k; use x; end k; end n; begin end m.",
-        Some((Code::S1, 51)),
-    ),
-    (
-        "module m; var x: integer; module n; use x; module k; use x; begin x := 1 end k; end n; begin end m.",
-        None,
-    ),
-    ("module m; const a = a; begin end m.", Some((Code::S1, 21))),
-    ("module m; const a = 1; b = a; begin end m.", None),
-    (
-        "module m; type t = array 1:2 of t; begin end m.",
-        Some((Code::S1, 33)),
-    ),
-    (
-        "module m; type t = record a: integer end; u = t; begin end m.",
-        None,
-    ),
-    (
-        "device module m [4]; var a [a]: bits; begin end m.",
-        Some((Code::S1, 29)),
-    ),
-    ("module m; type t = (a, b); const c = a; begin end m.", None),
-    (
-        "module m; const c = a; type t = (a, b); begin end m.",
-        Some((Code::S1, 21)),
-    ),
-    (
-        "module m; procedure p; begin q end p; procedure q; begin p; r end q; process r; begin end r; begin p end m.",
-        None,
-    ),
-    (
-        "module m; procedure p(a: integer; b: a1); begin end p; begin end m.",
-        Some((Code::S1, 38)),
-    ),
-    (
-        "module m; type t = integer; procedure p(t: t); begin t := 1 end p; begin end m.",
-        None,
-    ),
-    (
-        "module m; var x: integer; procedure p; const y = x; x = 1; z = x; begin end p; begin end m.",
-        None,
-    ),
-    (
-        "module m; procedure p; var a: integer; begin end p; begin a := 1 end m.",
-        Some((Code::S1, 59)),
-    ),
-    (
-        "module m; procedure f: integer; begin f := 1 end f; begin end m.",
-        None,
-    ),
-    (
-        "module m; var x: integer; x: char; begin end m.",
-        Some((Code::S2, 27)),
-    ),
-    (
-        "module m; var m: integer; begin end m.",
-        Some((Code::S2, 15)),
-    ),
-    (
-        "module m; var char: integer; begin end m.",
-        Some((Code::S2, 15)),
-    ),
-    ("module doio; begin end doio.", Some((Code::S2, 8))),
-    (
-        "module m; type t = (a, a); begin end m.",
-        Some((Code::S2, 24)),
-    ),
-    (
-        "module m; type t = (a, b); var a: t; begin end m.",
-        Some((Code::S2, 32)),
-    ),
-    (
-        "module m; type t = record a, a: integer end; begin end m.",
-        Some((Code::S2, 30)),
-    ),
-    (
-        "module m; type t = record a: integer; b: record a: integer end end; begin end m.",
-        None,
-    ),
-    (
-        "module m; type t = record char: integer end; begin end m.",
-        Some((Code::S2, 27)),
-    ),
-    (
-        "module m; type t = record a: (b, c) end; var b: t; begin end m.",
-        Some((Code::S2, 46)),
-    ),
-    (
-        "module m; var a: integer; type t = record a: integer end; begin end m.",
-        None,
-    ),
-    (
-        "module m; procedure p(a, a: integer); begin end p; begin end m.",
-        Some((Code::S2, 26)),
-    ),
-    (
-        "module m; procedure p(a: integer); var a: integer; begin end p; begin end m.",
-        Some((Code::S2, 40)),
-    ),
-    (
-        "module m; var a: integer; procedure p(a: integer); var b: integer; begin end p; var b: integer; begin end m.",
-        None,
-    ),
-    (
-        "module m; procedure p(true: integer); begin end p; begin end m.",
-        Some((Code::S2, 23)),
-    ),
-    (
-        "module m; procedure p; var p: integer; begin p := 1 end p; begin end m.",
-        None,
-    ),
-    (
-        "module m; procedure p; begin end p; process p; begin end p; begin end m.",
-        Some((Code::S2, 45)),
-    ),
-    (
-        "module m; var x: integer; module n; use x, x; end n; begin end m.",
-        Some((Code::S2, 44)),
-    ),
-    (
-        "module m; var x: integer; module n; use x; var x: char; end n; begin end m.",
-        Some((Code::S2, 48)),
-    ),
-    (
-        "module m; module n; use integer; end n; begin end m.",
-        Some((Code::S2, 25)),
-    ),
-    (
-        "module m; var x: integer; module n; define x; var x: char; end n; begin end m.",
-        Some((Code::S2, 44)),
-    ),
-    (
-        "module m; module n; define x; var x: char; end n; var x: integer; begin end m.",
-        Some((Code::S2, 55)),
-    ),
-    (
-        "module m; module n; define x, x; var x: char; end n; begin end m.",
-        Some((Code::S2, 31)),
-    ),
-    (
-        "module m; module n; end n; module n; end n; begin end m.",
-        Some((Code::S2, 35)),
-    ),
-    (
-        "module m; module n; var n: integer; end n; begin end m.",
-        None,
-    ),
-    (
-        "module m; module n; define x; end n; begin end m.",
-        Some((Code::S3, 28)),
-    ),
-    (
-        "module m; var x: integer; module n; define y; use x; end n; begin end m.",
-        Some((Code::S3, 44)),
-    ),
-    (
-        "module m; module n; define x; module k; define x; var x: integer; end k; end n; begin end m.",
-        Some((Code::S3, 28)),
-    ),
-    (
-        "module m; module n; define p; procedure p; begin end p; end n; begin p end m.",
-        None,
-    ),
-    (
-        "module m; module n; define k; module k; end k; end n; begin end m.",
-        None,
-    ),
-    (
-        "module m; module n; define t; type t = (a, b); end n; var x: t; begin x := a end m.",
-        Some((Code::S1, 76)),
-    ),
-    (
-        "module m; var x: integer; module n; begin x := 1 end n; begin end m.",
-        Some((Code::S4, 43)),
-    ),
-    (
-        "module m; var x: integer; module n; use x; begin x := 1 end n; begin end m.",
-        None,
-    ),
-    (
-        "module m; module n; begin x := 1 end n; var x: integer; begin end m.",
-        Some((Code::S1, 27)),
-    ),
-    (
-        "module m; module n; begin p end n; procedure p; begin end p; begin end m.",
-        Some((Code::S4, 27)),
-    ),
-    (
-        "module m; var x: integer; module n; module k; begin x := 1 end k; end n; begin end m.",
-        Some((Code::S4, 53)),
-    ),
-    (
-        "module m; var n: integer; module k; module n; end n; begin n := 1 end k; begin end m.",
-        Some((Code::S4, 60)),
-    ),
-    (
-        "module m; const p = 4; device module d [p]; use p; end d; begin end m.",
-        None,
-    ),
-    (
-        "module m; const p = 4; device module d [p]; end d; begin end m.",
-        Some((Code::S4, 41)),
-    ),
-    (
-        "module m; module n; define x; var x: integer; end n; begin x := 1 end m.",
-        None,
-    ),
-    (
-        "module m; var y: integer; procedure q; begin x := 1 end q; module n; define x; var x: integer; end n; begin end m.",
-        Some((Code::S1, 46)),
-    ),
-    ("module m; begin end k.", Some((Code::S5, 21))),
-    (
-        "module m; procedure p; begin end q; begin end m.",
-        Some((Code::S5, 34)),
-    ),
-    (
-        "module m; process p; begin end m; begin end m.",
-        Some((Code::S5, 32)),
-    ),
-    (
-        "module m; module n; end m; begin end m.",
-        Some((Code::S5, 25)),
-    ),
-    (
-        "module m; interface module n; end m; begin end m.",
-        Some((Code::S5, 35)),
-    ),
-    (
-        "device module m [4]; process p [64B]; begin end m; begin end m.",
-        Some((Code::S5, 49)),
-    ),
-    (
-        "module m; var x: integer; x: char; begin y := 1 end k.",
-        Some((Code::S2, 27)),
-    ),
-    (
-        "module m; begin y := 1; z := 1 end k.",
-        Some((Code::S1, 17)),
-    ),
-    (
-        "module m; procedure p; begin x := 1 end p; var x: integer; begin end m.",
-        Some((Code::S1, 30)),
-    ),
-    (
-        "module m; module n; begin x := 1 end n; module k; define x; var x: integer; end k; begin x := 1 end m.",
-        Some((Code::S1, 27)),
-    ),
-];
+/// With a blank or a comment behind each token, and before the first. A comment ends at the first `*)`.
+const PRINTS_A_WITH_COMMENTS: &str =
+    "(* a *)device(**)module(* b *)m(* [3] *)[ (* 7 *)04B(* C *)]\t;
+(* c; *)var(* (* *)TPB\r[ 177566B(* octal *) ](* d *):(* bits *)char(* e *);
+(* f *)begin(* g *)TPB (* h *) :=(* 'B' *)'A'(* ; *)end(* n *)m(* i *).(* j *)";
 
-/// Sources without faults, each with the columns of its uses and of their declarations; 0 is that of a standard name.
-const NAMINGS: [(&str, &[(u32, u32)]); 9] = [
-    (
-        "module m; var x: integer; begin x := 1 end m.",
-        &[(18, 0), (33, 15)],
-    ),
-    (
-        "module m; var x: integer; procedure p; const y = x; x = y; z = x; begin end p; begin x := 2 end m.",
-        &[(18, 0), (50, 15), (57, 46), (64, 53), (86, 15)],
-    ),
-    (
-        "module m; procedure p; begin q end p; procedure q; begin p end q; begin p end m.",
-        &[(30, 49), (58, 21), (73, 21)],
-    ),
-    (
-        "module m; module n; define x; var x: integer; begin x := 1 end n; begin x := 2 end m.",
-        &[(38, 0), (53, 35), (73, 35)],
-    ),
-    (
-        "module m; var x: integer; module n; use x; module k; use x; begin x := 1 end k; end n; begin end m.",
-        &[(18, 0), (67, 15)],
-    ),
-    (
-        "module m; module n; define x; module k; end k; var x: char; end n; module o; use x; begin x := 'a' end o; begin end m.",
-        &[(55, 0), (91, 52)],
-    ),
-    (
-        "module m; const p = 4; device module d [p]; use p; end d; begin end m.",
-        &[(41, 17)],
-    ),
-    (
-        "module m; type t = record a, b: integer; c: array 1:2 of char end; var v, w: t; const i = 1; begin v.a := v.c[i] end m.",
-        &[(33, 0), (58, 0), (78, 16), (100, 72), (107, 72), (111, 87)],
-    ),
-    (
-        "module m; type t = integer; procedure f(t: t): integer; begin f := t + 1 end f; var x: integer; begin x := f(1) end m.",
-        &[
-            (20, 0),
-            (44, 16),
-            (48, 0),
-            (63, 39),
-            (68, 41),
-            (88, 0),
-            (103, 85),
-            (108, 39),
-        ],
-    ),
-];
-
-/// The tokens of a source, or its first lexical fault.
-fn scanned(alloc: Global, source: &[u8]) -> Result<Result<Scanned, Fault>, Memory> {
-    if source.len() > 262_144 {
-        return Err(Memory);
+#[test]
+fn runs_each_source_of_the_form(rt: HostRuntime) -> Result<(), Fail> {
+    let alloc = rt.alloc();
+    let run = words(alloc, "run a b")?;
+    for (source, text) in [
+        (
+            WRITES,
+            "print 110\npunch 102\nlost printer 151\ninstructions 7\nend\n",
+        ),
+        (PRINTS_A_WITH_COMMENTS, "print 101\ninstructions 5\nend\n"),
+        // Both variables are the one register, whose second byte comes too early.
+        (
+            "device module m [5]; var p [177566B]: char; q [177566B]: char;
+             begin p := 'A'; q := 'B' end m.",
+            "print 101\nlost printer 102\ninstructions 6\nend\n",
+        ),
+        // Names whose letters are of another case are other names, and p is never assigned.
+        (
+            "device module M [6]; var p [177566B]: char; m [177556B]: char; Send [177566B]: char;
+             begin m := 'A'; Send := 'A' end M.",
+            "punch 101\nprint 101\ninstructions 6\nend\n",
+        ),
+    ] {
+        let mut shelf = shelf(alloc, source.as_bytes(), b"", &[])?;
+        assert_eq!(rt; modula(alloc, &run, &mut shelf), 0, "at {source}");
+        assert_eq!(rt; shelf.printed(), text.as_bytes(), "at {source}");
     }
-    match scan(alloc, source) {
-        Ok(scanned) => Ok(Ok(scanned)),
-        Err(fault) => match fault.fault() {
-            Some(fault) => Ok(Err(fault)),
-            None => Err(Memory),
-        },
-    }
+    Ok(())
 }
 
-/// The first fault of the grammar, where there is one.
-fn grammar_fault(alloc: Global, source: &[u8]) -> Result<Option<Fault>, Memory> {
-    let scanned = match scanned(alloc, source)? {
-        Ok(scanned) => scanned,
-        Err(fault) => return Ok(Some(fault)),
+/// `PRINTS_A` with other words in the place of these.
+fn with_words(alloc: Global, words: &str, others: &str) -> Result<String, Fail> {
+    let Some((before, after)) = PRINTS_A.split_once(words) else {
+        return Err("no such words")?;
     };
-    match parse(alloc, scanned.tokens.as_slice(), scanned.end) {
-        Ok(_) => Ok(None),
-        Err(ParseFault::Memory) => Err(Memory),
-        Err(fault) => Ok(fault.fault()),
-    }
+    Ok(format!(in alloc; "{before}{others}{after}")?)
 }
 
-/// The namings of a tree, or its first scope fault.
-fn resolved(alloc: Global, tree: &Tree) -> Result<Result<Scoped, Fault>, Memory> {
-    match resolve(alloc, tree) {
-        Ok(scoped) => Ok(Ok(scoped)),
-        Err(ResolveFault::Refused(fault)) => Ok(Err(fault)),
-        Err(ResolveFault::Memory) => Err(Memory),
-    }
+/// Whether the source is answered like this, and nothing is saved.
+fn is_answered(
+    alloc: Global,
+    command: &str,
+    source: &[u8],
+    status: u8,
+    line: &str,
+) -> Result<bool, Fail> {
+    let words = words(alloc, command)?;
+    let mut shelf = shelf(alloc, source, b"", &[])?;
+    let answer = modula(alloc, &words, &mut shelf);
+    Ok(answer == status && shelf.printed() == line.as_bytes() && shelf.file("i").is_none())
 }
 
-/// The namings of a source without faults, or its first fault of words, grammar and scopes.
-fn names(alloc: Global, source: &[u8]) -> Result<Result<Scoped, Fault>, Memory> {
-    let scanned = match scanned(alloc, source)? {
-        Ok(scanned) => scanned,
-        Err(fault) => return Ok(Err(fault)),
-    };
-    match parse(alloc, scanned.tokens.as_slice(), scanned.end) {
-        Ok(tree) => resolved(alloc, &tree),
-        Err(ParseFault::Unexpected(place)) => Ok(Err(Fault {
-            code: Code::Unexpected,
-            place,
-        })),
-        Err(ParseFault::TooDeep(place)) => Ok(Err(Fault {
-            code: Code::TooDeep,
-            place,
-        })),
-        Err(ParseFault::Memory) => Err(Memory),
-    }
-}
-
-/// A fault in the first line.
-fn fault_at(code: Code, column: u32) -> Fault {
-    Fault {
-        code,
-        place: Place { line: 1, column },
-    }
-}
-
-/// An assignment of a number in so many parentheses.
-fn nested(alloc: Global, depth: usize) -> Result<Vec<u8>, Memory> {
-    let mut text = Vec::from_slice(alloc, b"module m; begin x := ")?;
-    for _ in 0..depth {
-        text.push(b'(')?;
-    }
-    text.push(b'1')?;
-    for _ in 0..depth {
-        text.push(b')')?;
-    }
-    for b in b" end m." {
-        text.push(*b)?;
-    }
-    Ok(text)
-}
+/// Words of `PRINTS_A` and others in their place, which make an accepted source of another form.
+const OTHER_FORMS: [(&str, &str); 20] = [
+    // the priority is an integer constant from 4 to 7, and no number alone
+    ("[4]", "[+4]"),
+    ("[4]", "[(4)]"),
+    ("[4]", "[4 + 0]"),
+    ("[4]", "[4 * 1]"),
+    // the declarations are no one list of registers of the printer and the punch
+    ("[177566B]", "[177564B]"),
+    ("[177566B]", "[(177566B)]"),
+    (" [177566B]", ""),
+    ("TPB [177566B]", "p [177566B], TPB [177556B]"),
+    ("char;", "char; x: char;"),
+    ("char;", "char; var x [177556B]: char;"),
+    ("char;", "char; const x = 1;"),
+    ("var", "const x = 1; var"),
+    ("char;", "char; procedure p; begin end p;"),
+    // the statements are no assignments of characters alone to variables alone
+    ("begin TPB := 'A'", ""),
+    ("TPB := 'A'", ""),
+    ("'A'", "'A';"),
+    ("TPB := 'A'", "; TPB := 'A'"),
+    ("'A'", "TPB"),
+    ("'A'", "('A')"),
+    ("TPB := 'A'", "if true then TPB := 'A' end"),
+];
 
 #[test]
-fn names_the_first_fault_of_the_grammar(rt: HostRuntime) -> Result<(), Fail> {
+fn runs_no_other_form(rt: HostRuntime) -> Result<(), Fail> {
     let alloc = rt.alloc();
-    for (source, fault) in PROGRAMS {
-        let expected = fault.map(|(code, column)| fault_at(code, column));
-        let found = grammar_fault(alloc, source.as_bytes())?;
-        assert!(rt; found == expected, "{source}: {found:?}");
-    }
-    Ok(())
-}
-
-#[test]
-fn goes_as_deep_as_64_nodes(rt: HostRuntime) -> Result<(), Fail> {
-    let alloc = rt.alloc();
-    for (depth, expected) in [(62, None), (63, Some(fault_at(Code::TooDeep, 85)))] {
-        let found = grammar_fault(alloc, nested(alloc, depth)?.as_slice())?;
-        assert!(rt; found == expected, "{depth}: {found:?}");
-    }
-    Ok(())
-}
-
-#[test]
-fn names_the_first_fault_of_scopes(rt: HostRuntime) -> Result<(), Fail> {
-    let alloc = rt.alloc();
-    for (source, fault) in SCOPES {
-        let expected = fault.map(|(code, column)| fault_at(code, column));
-        let found = names(alloc, source.as_bytes())?.err();
-        assert!(rt; found == expected, "{source}: {found:?}");
-    }
-    Ok(())
-}
-
-/// The columns of the uses and of their declarations; all stand in the first line, but standard names in none.
-fn columns(alloc: Global, source: &[u8]) -> Result<Vec<(u32, u32)>, Memory> {
-    let mut columns = Vec::new(alloc);
-    if let Ok(scoped) = names(alloc, source)? {
-        for naming in scoped.as_slice() {
-            columns.push((naming.at.column, naming.declared.column))?;
+    for (words, others) in OTHER_FORMS {
+        let source = with_words(alloc, words, others)?;
+        for (command, status, line) in [
+            ("check a", 0, "ok\n"),
+            ("run a b", 15, "not yet source\n"),
+            ("compile a i", 15, "not yet source\n"),
+        ] {
+            let right = is_answered(alloc, command, source.as_bytes(), status, line)?;
+            assert!(rt; right, "{command} at {source}");
         }
     }
-    Ok(columns)
+    Ok(())
+}
+
+/// Words of `PRINTS_A` and others in their place, each with the line and the column of the fault and its code.
+const FAULTS: [(&str, &str, &str); 28] = [
+    // rules
+    ("[4]", "[3]", "1 18 M1"),
+    ("[4]", "[8]", "1 18 M1"),
+    ("device module m [4]", "module m", "1 15 M9"),
+    // types
+    ("[4]", "[4 = 4]", "1 18 Y5"),
+    ("char;", "bits;", "1 60 Y1"),
+    ("char;", "array 0: 1 of char;", "1 74 Y1"),
+    ("'A'", "65", "1 60 Y1"),
+    ("'A'", "'AB'", "1 60 Y1"),
+    ("'A'", "-'A'", "1 61 Y1"),
+    ("'A'", "'A' + 'A'", "1 60 Y1"),
+    ("'A'", "'A' and 'A'", "1 60 Y1"),
+    ("'A'", "'A' = 'A'", "1 60 Y1"),
+    ("TPB :=", "TPB[0] :=", "1 53 Y1"),
+    ("TPB :=", "TPB.x :=", "1 53 Y1"),
+    ("TPB := 'A'", "TPB", "1 53 Y6"),
+    // scopes
+    ("var TPB [177566B]: char;", "", "1 29 S1"),
+    ("TPB :=", "TPC :=", "1 53 S1"),
+    ("TPB :=", "m :=", "1 53 S1"),
+    ("char;", "char; TPB [177556B]: char;", "1 47 S2"),
+    ("char;", "char; m [177556B]: char;", "1 47 S2"),
+    ("char;", "char; send [177556B]: char;", "1 47 S2"),
+    ("device module m", "device module char", "1 15 S2"),
+    ("end m", "end n", "1 68 S5"),
+    ("end m", "end TPB", "1 68 S5"),
+    // the grammar
+    ("'A'", "'A' TPB := 'B'", "1 64 Unexpected"),
+    ("TPB [177566B]: char;", "", "1 27 Unexpected"),
+    ("m.", "m", "1 69 Unexpected"),
+    ("m.", "m. x", "1 71 Unexpected"),
+];
+
+#[test]
+fn names_the_first_fault(rt: HostRuntime) -> Result<(), Fail> {
+    let alloc = rt.alloc();
+    for (words, others, fault) in FAULTS {
+        let source = with_words(alloc, words, others)?;
+        let line = format!(in alloc; "source {fault}\n")?;
+        for command in ["check a", "run a b", "compile a i"] {
+            let right = is_answered(alloc, command, source.as_bytes(), 2, line.as_str())?;
+            assert!(rt; right, "{command} at {source}");
+        }
+    }
+    Ok(())
+}
+
+/// A keyboard, a printer and a process between them.
+const TERMINAL: &str = "module terminal;
+device module keyboard [4];
+define getch;
+const size = 8;
+var TKS [177560B]: bits; TKB [177562B]: char;
+n, in, out: integer;
+nonempty, nonfull: signal;
+buf: array 1:size of char;
+procedure getch(var c: char);
+begin if n = 0 then wait(nonempty) end;
+c := buf[out];
+out := out mod size + 1; n := n - 1; send(nonfull) end getch;
+process driver [60B];
+begin loop if n = size then wait(nonfull) end;
+TKS[6] := true; doio; TKS[6] := false;
+buf[in] := TKB;
+in := in mod size + 1; n := n + 1; send(nonempty) end end driver;
+begin in := 1; out := 1; driver end keyboard;
+device module printer [4];
+define putch;
+const size = 8;
+var TPS [177564B]: bits; TPB [177566B]: char;
+n, in, out: integer;
+nonempty, nonfull: signal;
+buf: array 1:size of char;
+procedure putch(c: char);
+begin if n = size then wait(nonfull) end;
+buf[in] := c;
+in := in mod size + 1; n := n + 1; send(nonempty) end putch;
+process driver [64B];
+begin loop if n = 0 then wait(nonempty) end;
+TPB := buf[out];
+out := out mod size + 1; n := n - 1; TPS[6] := true; doio; TPS[6] := false; send(nonfull) end end driver;
+begin in := 1; out := 1; driver end printer;
+process echo; var c: char;
+begin loop getch(c); putch(c) end end echo;
+begin echo end terminal.";
+
+/// Sources, and what `check` says of them.
+const CHECKED: [(&str, u8, &str); 10] = [
+    ("", 2, "source 1 1 Unexpected\n"),
+    ("module m; begin end m", 2, "source 1 22 Unexpected\n"),
+    ("module m; begin end k.", 2, "source 1 21 S5\n"),
+    (
+        "device module k [4]; process d [100B]; begin doio end d; begin d end k.",
+        2,
+        "source 1 33 M4\n",
+    ),
+    (
+        "device module k [4]; process a [60B]; begin doio end a; process b [60B]; begin doio end b; end k.",
+        2,
+        "source 1 68 M3\n",
+    ),
+    (
+        "module m; procedure p; begin end p; device module d [4]; use p; begin p end d; begin end m.",
+        2,
+        "source 1 71 M5\n",
+    ),
+    ("module m; begin doio end m.", 2, "source 1 17 M8\n"),
+    // The lines of a source are counted, and its columns in each line.
+    ("module m;\nbegin\n  doio\nend m.\n", 2, "source 3 3 M8\n"),
+    (PRINTS_A, 0, "ok\n"),
+    (TERMINAL, 0, "ok\n"),
+];
+
+#[test]
+fn checks_sources(rt: HostRuntime) -> Result<(), Fail> {
+    let alloc = rt.alloc();
+    for (source, status, line) in CHECKED {
+        let right = is_answered(alloc, "check a", source.as_bytes(), status, line)?;
+        assert!(rt; right, "at {source}");
+    }
+    Ok(())
 }
 
 #[test]
-fn finds_declarations(rt: HostRuntime) -> Result<(), Fail> {
+fn answers_sources_by_their_size(rt: HostRuntime) -> Result<(), Fail> {
     let alloc = rt.alloc();
-    for (source, expected) in NAMINGS {
-        let found = columns(alloc, source.as_bytes())?;
-        assert!(rt; found.as_slice() == expected, "{source}: {found:?}");
+    // Seven tokens stand around the semicolons: 1666 are within the limit, at 12 words for each, and one more is not.
+    for (more, command, status, line) in [
+        (1659, "check a", 0, "ok\n"),
+        (1659, "run a b", 15, "not yet source\n"),
+        (1660, "check a", 13, "too large\n"),
+        (1660, "run a b", 13, "too large\n"),
+        (1660, "compile a i", 13, "too large\n"),
+    ] {
+        let empty = ";".repeat(alloc, more)?;
+        let source = format!(in alloc; "module m; begin {empty} end m.")?;
+        let right = is_answered(alloc, command, source.as_bytes(), status, line)?;
+        assert!(rt; right, "{command} at {more}");
+    }
+    Ok(())
+}
+
+#[test]
+fn runs_at_most_1666_tokens(rt: HostRuntime) -> Result<(), Fail> {
+    let alloc = rt.alloc();
+    let run = words(alloc, "run a b")?;
+    // 11 + 7 * 1 + 4 * 412 tokens are 1666, and one statement more is one too many. The instructions are 1 + 412 + 3.
+    for (more, status, last) in [
+        (411, 0, "\ninstructions 416\nend\n"),
+        (412, 13, "too large\n"),
+    ] {
+        let statements = "; TPB := 'B'".repeat(alloc, more)?;
+        let source = with_words(
+            alloc,
+            " end",
+            format!(in alloc; "{statements} end")?.as_str(),
+        )?;
+        let mut shelf = shelf(alloc, source.as_bytes(), b"", &[])?;
+        assert_eq!(rt; modula(alloc, &run, &mut shelf), status, "at {more}");
+        let ends = shelf.printed().strip_suffix(last.as_bytes()).is_some();
+        assert!(rt; ends, "at {more}");
+    }
+    Ok(())
+}
+
+#[test]
+fn runs_no_deep_source(rt: HostRuntime) -> Result<(), Fail> {
+    let alloc = rt.alloc();
+    // The statement has depth 1, and each parenthesis is one deeper: behind 62 the character has depth 64, behind 63 it is
+    // too deep, and of 64 the last is. The first parenthesis stands in column 60.
+    for (count, status, line) in [
+        (62usize, 15, "not yet source\n"),
+        (63, 2, "source 1 123 TooDeep\n"),
+        (64, 2, "source 1 123 TooDeep\n"),
+    ] {
+        let opening = "(".repeat(alloc, count)?;
+        let closing = ")".repeat(alloc, count)?;
+        let value = format!(in alloc; "{opening}'A'{closing}")?;
+        let source = with_words(alloc, "'A'", value.as_str())?;
+        let right = is_answered(alloc, "run a b", source.as_bytes(), status, line)?;
+        assert!(rt; right, "at {count}");
     }
     Ok(())
 }

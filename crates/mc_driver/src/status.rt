@@ -6,6 +6,9 @@ pub const DONE: u8 = 0;
 /// The words are no command.
 pub const WORDS: u8 = 1;
 
+/// The source has a fault.
+pub const BAD_SOURCE: u8 = 2;
+
 /// The script is refused.
 pub const BAD_SCRIPT: u8 = 3;
 
@@ -20,6 +23,9 @@ pub const FAILED: u8 = 11;
 
 /// Want of memory.
 pub const NO_MEMORY: u8 = 12;
+
+/// The source has no fault, and its size is greater than the limit.
+pub const TOO_LARGE: u8 = 13;
 
 /// A file has more bytes than its limit.
 pub const TOO_LONG: u8 = 14;

@@ -9,7 +9,7 @@ use mc_word::bytes::{Bytes, Text};
 use std::alloc::Global;
 use std::test::Fail;
 
-const PRINTS_A: &str = "device module m [4]; var TPB [177566B]: char; begin TPB := 'A' end m.";
+pub const PRINTS_A: &str = "device module m [4]; var TPB [177566B]: char; begin TPB := 'A' end m.";
 
 const PRINTS_A_B: &str =
     "device module m [4]; var TPB [177566B]: char; begin TPB := 'A'; TPB := 'B' end m.";
@@ -17,30 +17,11 @@ const PRINTS_A_B: &str =
 const PUNCHES_A: &str =
     "device module m [4]; var PPB [177556B]: char; begin PPB (* one byte *) := 'A' end m.";
 
-/// With a text of one byte, an octal character and a character, and a comment behind two of the statements.
-const WRITES: &str = "(* two devices *)
-device module writer [7];
-var
-  printer [177566B]: char;
-  punch [177556B]: char;
-begin
-  printer := \"H\";   (* is printed *)
-  punch := 102C;    (* the letter B *)
-  printer := 'i'    (* comes too early, and is lost *)
-end writer.
-";
-
-/// With a blank or a comment behind each token, and before the first. A comment ends at the first `*)`.
-const PRINTS_A_WITH_COMMENTS: &str =
-    "(* a *)device(**)module(* b *)m(* [3] *)[ (* 7 *)04B(* C *)]\t;
-(* c; *)var(* (* *)TPB\r[ 177566B(* octal *) ](* d *):(* bits *)char(* e *);
-(* f *)begin(* g *)TPB (* h *) :=(* 'B' *)'A'(* ; *)end(* n *)m(* i *).(* j *)";
-
 /// What is printed for `PRINTS_A`, where `#` stands for digits.
 const PRINTED_A: &str = "print 101\ninstructions #\nend\n";
 
 /// The words of a command, which have no blanks in them.
-fn words(alloc: Global, command: &str) -> Result<Vec<String>, Fail> {
+pub fn words(alloc: Global, command: &str) -> Result<Vec<String>, Fail> {
     let mut words = Vec::new(alloc);
     for word in command.split_whitespace() {
         words.push(String::from_str(alloc, word)?)?;
@@ -61,7 +42,12 @@ fn files(alloc: Global, contents: &[(&str, &[u8])]) -> Result<Vec<MemFile>, Fail
 }
 
 /// A shelf on which only calls of these numbers fail, with a source `a`, the same source as `-`, and a script `b`.
-fn shelf(alloc: Global, source: &[u8], script: &[u8], failing: &[u64]) -> Result<MemShelf, Fail> {
+pub fn shelf(
+    alloc: Global,
+    source: &[u8],
+    script: &[u8],
+    failing: &[u64],
+) -> Result<MemShelf, Fail> {
     let files = files(alloc, &[("a", source), ("-", source), ("b", script)])?;
     Ok(MemShelf::new(alloc, files, Vec::from_slice(alloc, failing)?))
 }
@@ -118,11 +104,11 @@ fn answers_sources_and_scripts(rt: HostRuntime) -> Result<(), Fail> {
         ("(* a", "limit 0", 3, "script 1 OutOfRange\n"),
         (PRINTS_A, "\n", 0, PRINTED_A),
         ("module m; begin end m.", "", 15, "not yet source\n"),
-        ("(* a", "", 15, "not yet source\n"),
-        ("'", "", 15, "not yet source\n"),
-        ("65536", "", 15, "not yet source\n"),
-        ("?", "", 15, "not yet source\n"),
-        ("", "", 15, "not yet source\n"),
+        ("(* a", "", 2, "source 1 1 OpenComment\n"),
+        ("'", "", 2, "source 1 1 OpenText\n"),
+        ("65536", "", 2, "source 1 1 NumberTooLarge\n"),
+        ("?", "", 2, "source 1 1 BadByte\n"),
+        ("", "", 2, "source 1 1 Unexpected\n"),
     ] {
         let mut shelf = shelf(alloc, source.as_bytes(), script.as_bytes(), &[])?;
         assert_eq!(rt;
@@ -143,164 +129,6 @@ fn answers_sources_and_scripts(rt: HostRuntime) -> Result<(), Fail> {
 }
 
 #[test]
-fn runs_each_source_of_the_form(rt: HostRuntime) -> Result<(), Fail> {
-    let alloc = rt.alloc();
-    let run = words(alloc, "run a b")?;
-    for (source, text) in [
-        (
-            WRITES,
-            "print 110\npunch 102\nlost printer 151\ninstructions 7\nend\n",
-        ),
-        (PRINTS_A_WITH_COMMENTS, "print 101\ninstructions 5\nend\n"),
-        // Both variables are the one register, whose second byte comes too early.
-        (
-            "device module m [5]; var p [177566B]: char; q [177566B]: char;
-             begin p := 'A'; q := 'B' end m.",
-            "print 101\nlost printer 102\ninstructions 6\nend\n",
-        ),
-        // Names whose letters are of another case are other names, and p is never assigned.
-        (
-            "device module M [6]; var p [177566B]: char; m [177556B]: char; Send [177566B]: char;
-             begin m := 'A'; Send := 'A' end M.",
-            "punch 101\nprint 101\ninstructions 6\nend\n",
-        ),
-    ] {
-        let mut shelf = shelf(alloc, source.as_bytes(), b"", &[])?;
-        assert_eq!(rt; modula(alloc, &run, &mut shelf), 0, "at {source}");
-        assert_eq!(rt; shelf.printed(), text.as_bytes(), "at {source}");
-    }
-    Ok(())
-}
-
-/// `PRINTS_A` with other words in the place of these.
-fn with_words(alloc: Global, words: &str, others: &str) -> Result<String, Fail> {
-    let Some((before, after)) = PRINTS_A.split_once(words) else {
-        return Err("no such words")?;
-    };
-    Ok(format!(in alloc; "{before}{others}{after}")?)
-}
-
-#[test]
-fn runs_no_other_source(rt: HostRuntime) -> Result<(), Fail> {
-    let alloc = rt.alloc();
-    let run = words(alloc, "run a b")?;
-    for (words, others) in [
-        // the priority is no number from 4 to 7 alone
-        ("[4]", "[3]"),
-        ("[4]", "[8]"),
-        ("[4]", "[+4]"),
-        ("[4]", "[(4)]"),
-        ("[4]", "[4 + 0]"),
-        ("[4]", "[4 * 1]"),
-        ("[4]", "[4 = 4]"),
-        // no device module
-        ("device module m [4]", "module m"),
-        // the declarations are no one list of registers
-        ("[177566B]", "[177564B]"),
-        ("[177566B]", "[(177566B)]"),
-        (" [177566B]", ""),
-        ("TPB [177566B]", "p [177566B], TPB [177556B]"),
-        ("char;", "bits;"),
-        ("char;", "array 0: 1 of char;"),
-        ("char;", "char; x: char;"),
-        ("char;", "char; var x [177556B]: char;"),
-        ("char;", "char; const x = 1;"),
-        ("var", "const x = 1; var"),
-        ("char;", "char; procedure p; begin end p;"),
-        ("var TPB [177566B]: char;", ""),
-        // the names are not all different, or one is a standard name
-        ("char;", "char; TPB [177556B]: char;"),
-        ("char;", "char; m [177556B]: char;"),
-        ("char;", "char; send [177556B]: char;"),
-        (
-            PRINTS_A,
-            "device module char [4]; var TPB [177566B]: char; begin TPB := 'A' end char.",
-        ),
-        ("end m", "end n"),
-        ("end m", "end TPB"),
-        // the statements are no assignments of characters alone to variables alone
-        ("begin TPB := 'A'", ""),
-        ("TPB := 'A'", ""),
-        ("'A'", "'A';"),
-        ("TPB := 'A'", "; TPB := 'A'"),
-        ("'A'", "65"),
-        ("'A'", "'AB'"),
-        ("'A'", "TPB"),
-        ("'A'", "('A')"),
-        ("'A'", "-'A'"),
-        ("'A'", "'A' + 'A'"),
-        ("'A'", "'A' and 'A'"),
-        ("'A'", "'A' = 'A'"),
-        ("TPB :=", "TPC :="),
-        ("TPB :=", "m :="),
-        ("TPB :=", "TPB[0] :="),
-        ("TPB :=", "TPB.x :="),
-        ("TPB := 'A'", "TPB"),
-        ("TPB := 'A'", "if true then TPB := 'A' end"),
-        // no program
-        ("'A'", "'A' TPB := 'B'"),
-        ("TPB [177566B]: char;", ""),
-        ("m.", "m"),
-        ("m.", "m. x"),
-    ] {
-        let source = with_words(alloc, words, others)?;
-        let mut shelf = shelf(alloc, source.as_bytes(), b"", &[])?;
-        assert_eq!(rt; modula(alloc, &run, &mut shelf), 15, "at {source}");
-        assert_eq!(rt;
-            shelf.printed(),
-            b"not yet source\n".as_slice(),
-            "at {source}"
-        );
-    }
-    Ok(())
-}
-
-#[test]
-fn runs_at_most_1666_tokens(rt: HostRuntime) -> Result<(), Fail> {
-    let alloc = rt.alloc();
-    let run = words(alloc, "run a b")?;
-    // 11 + 7 * 1 + 4 * 412 tokens are 1666, and one statement more is one too many. The instructions are 1 + 412 + 3.
-    for (more, status, last) in [
-        (411, 0, "\ninstructions 416\nend\n"),
-        (412, 15, "not yet source\n"),
-    ] {
-        let statements = "; TPB := 'B'".repeat(alloc, more)?;
-        let source = with_words(
-            alloc,
-            " end",
-            format!(in alloc; "{statements} end")?.as_str(),
-        )?;
-        let mut shelf = shelf(alloc, source.as_bytes(), b"", &[])?;
-        assert_eq!(rt; modula(alloc, &run, &mut shelf), status, "at {more}");
-        let ends = shelf.printed().strip_suffix(last.as_bytes()).is_some();
-        assert!(rt; ends, "at {more}");
-    }
-    Ok(())
-}
-
-#[test]
-fn runs_no_deep_source(rt: HostRuntime) -> Result<(), Fail> {
-    let alloc = rt.alloc();
-    let run = words(alloc, "run a b")?;
-    // The statement has depth 1, and each parenthesis is one deeper: behind 62 the character has depth 64, behind 63 it is
-    // too deep, and of 64 the last is.
-    for count in [62, 63, 64usize] {
-        let opening = "(".repeat(alloc, count)?;
-        let closing = ")".repeat(alloc, count)?;
-        let value = format!(in alloc; "{opening}'A'{closing}")?;
-        let source = with_words(alloc, "'A'", value.as_str())?;
-        let mut shelf = shelf(alloc, source.as_bytes(), b"", &[])?;
-        assert_eq!(rt; modula(alloc, &run, &mut shelf), 15, "at {count}");
-        assert_eq!(rt;
-            shelf.printed(),
-            b"not yet source\n".as_slice(),
-            "at {count}"
-        );
-    }
-    Ok(())
-}
-
-#[test]
 fn answers_words(rt: HostRuntime) -> Result<(), Fail> {
     let alloc = rt.alloc();
     for (command, status, line) in [
@@ -310,7 +138,8 @@ fn answers_words(rt: HostRuntime) -> Result<(), Fail> {
         ("run a b c", 1, "words\n"),
         ("exec a b --settings c", 1, "words\n"),
         ("compile --journal a b", 1, "words\n"),
-        ("check a", 15, "not yet words\n"),
+        ("check", 1, "words\n"),
+        ("check --journal a", 1, "words\n"),
         ("generate 26", 15, "not yet words\n"),
         ("self 3", 15, "not yet words\n"),
     ] {
@@ -355,6 +184,20 @@ fn answers_calls_that_fail(rt: HostRuntime) -> Result<(), Fail> {
     let mut printing = shelf(alloc, PRINTS_A.as_bytes(), b"", &[3])?;
     assert_eq!(rt; modula(alloc, &run, &mut printing), 11);
     assert_eq!(rt; printing.printed(), b"print 101\ninst".as_slice());
+    Ok(())
+}
+
+#[test]
+fn answers_calls_of_check_that_fail(rt: HostRuntime) -> Result<(), Fail> {
+    let alloc = rt.alloc();
+    let check = words(alloc, "check a")?;
+    // A load, and the print of 3 bytes.
+    for (failing, status, printed) in [(0, 0, "ok\n"), (1, 11, ""), (2, 11, "o")] {
+        let mut shelf = shelf(alloc, PRINTS_A.as_bytes(), b"", &[failing])?;
+        assert_eq!(rt; modula(alloc, &check, &mut shelf), status, "at {failing}");
+        assert_eq!(rt; shelf.printed(), printed.as_bytes(), "at {failing}");
+        assert!(rt; are_loads(shelf.asked(), &["a"]), "at {failing}");
+    }
     Ok(())
 }
 
@@ -647,7 +490,7 @@ fn prints_in_pieces(rt: HostRuntime) -> Result<(), Fail> {
 fn answers_files_that_are_too_long(rt: HostRuntime) -> Result<(), Fail> {
     let alloc = rt.alloc();
     for (command, source, script, status, text, loads) in [
-        ("run a b", 262_144, 0, 15, "not yet source\n", 2),
+        ("run a b", 262_144, 0, 2, "source 1 262145 Unexpected\n", 2),
         ("run a b", 262_145, 1, 14, "too long source\n", 1),
         ("run a b", 1, 1_048_577, 14, "too long script\n", 2),
         ("exec a b", 131_073, 1, 14, "too long image\n", 1),
@@ -660,7 +503,9 @@ fn answers_files_that_are_too_long(rt: HostRuntime) -> Result<(), Fail> {
             1,
         ),
         ("compile a i", 262_145, 1, 14, "too long source\n", 1),
-        ("compile a i", 1, 1, 15, "not yet source\n", 1),
+        ("compile a i", 1, 1, 2, "source 1 2 Unexpected\n", 1),
+        ("check a", 262_144, 1, 2, "source 1 262145 Unexpected\n", 1),
+        ("check a", 262_145, 1, 14, "too long source\n", 1),
     ] {
         let words = words(alloc, command)?;
         let source: Vec<u8> = vec![in alloc; b' '; source]?;

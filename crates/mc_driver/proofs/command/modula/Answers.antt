@@ -2,7 +2,8 @@ use Rattle.std.proofs.Common.{◌≡◌, [], refl, sym, subst, arith, Option, No
 use Rattle.std.specs.Prelude.{codes, string_bytes}
 use Rattle.mc_words.specs.Commands.{Order, command_of}
 use Rattle.mc_driver.specs.Outside.{View, view, EndsSaving}
-use Rattle.mc_driver.specs.Answer.{AsksNothing, AnswersTo, IsLine, SavesNothing, asks_of, target_of}
+use Rattle.mc_driver.specs.Refusal.{IsLine}
+use Rattle.mc_driver.specs.Answer.{AsksNothing, AnswersTo, SavesNothing, asks_of, target_of}
 use Rattle.mc_driver.proofs.Endings.{says_ends}
 use Rattle.mc_driver.proofs.Saving.{plain_ends}
 use Rattle.mc_driver.proofs.command.modula.Goals as goal

@@ -1,6 +1,7 @@
 use Rattle.std.proofs.Common.{[], refl, arith}
 use Rattle.std.specs.Prelude.{codes}
-use Rattle.mc_driver.specs.Answer.{AsksNothing, IsLine}
+use Rattle.mc_driver.specs.Refusal.{IsLine}
+use Rattle.mc_driver.specs.Answer.{AsksNothing}
 use Rattle.mc_driver.proofs.Endings.{says_ends}
 use Rattle.mc_driver.proofs.Saving.{plain_ends}
 use Rattle.mc_driver.proofs.command.not_yet.Goals as goal

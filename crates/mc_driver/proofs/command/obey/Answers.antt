@@ -2,9 +2,9 @@ use Rattle.std.proofs.Common.{◌≡◌, ◌∷◌, [], sym, ap, subst, Option, 
 use Rattle.std.specs.Prelude.{◌++◌, option_map}
 use Rattle.mc_shelf.specs.declared.ask.Ask.TheVariants.{Load}
 use Rattle.mc_words.specs.declared.command.Command.{Command}
-use Rattle.mc_words.specs.Commands.{Order, Run, Compile, Exec, order_of}
+use Rattle.mc_words.specs.Commands.{Order, Run, Compile, Exec, Check, order_of}
 use Rattle.mc_driver.specs.Outside.{View, view, EndsSaving}
-use Rattle.mc_driver.specs.Answer.{AnswersTo, IsRunAnswer, IsExecAnswer, settings_load, asks_of, target_of}
+use Rattle.mc_driver.specs.Answer.{AnswersTo, IsRunAnswer, IsExecAnswer, IsCheckAnswer, settings_load, asks_of, target_of}
 use Rattle.mc_driver.proofs.Saving.{plain_ends}
 use Rattle.mc_driver.proofs.command.obey.Goals as goal
 
@@ -40,3 +40,13 @@ returns-in-Compile-clause-ends g c =
     let order : Option Order = Some (Compile c.in-Compile.source.now c.in-Compile.image.now (option_map (λ t. t.now) c.in-Compile.settings)) in
     let is : Some (order_of c.args.command) ≡ order = order_at c.args.command _ c.in-Compile.is in
     subst (λ (o : Option Order). EndsSaving v (asks_of o) (target_of o) (AnswersTo o) c.compile.result w) (sym is) c.compile.ensures
+
+pub returns-in-Check-clause-ends : goal.returns-in-Check-clause-ends
+returns-in-Check-clause-ends g c =
+    let S = g.S.Shelf in
+    let v : View = view (S.files c.args.shelf.now) (S.printed c.args.shelf.now) (S.asked c.args.shelf.now) (S.spare c.args.shelf.now) (S.faults c.args.shelf.now) (S.longs c.args.shelf.now) in
+    let w : View = view (S.files c.check.new.shelf) (S.printed c.check.new.shelf) (S.asked c.check.new.shelf) (S.spare c.check.new.shelf) (S.faults c.check.new.shelf) (S.longs c.check.new.shelf) in
+    let order : Option Order = Some (Check c.in-Check.source.now) in
+    let is : Some (order_of c.args.command) ≡ order = order_at c.args.command _ c.in-Check.is in
+    subst (λ (o : Option Order). EndsSaving v (asks_of o) (target_of o) (AnswersTo o) c.check.result w) (sym is)
+    (plain_ends v w (Load c.in-Check.source.now ∷ []) (IsCheckAnswer c.in-Check.source.now) c.check.result c.check.ensures)

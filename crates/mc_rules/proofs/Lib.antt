@@ -1,0 +1,11 @@
+mod AddLaws
+mod AnyLaws
+mod CallLaws
+mod Designators
+mod DeviceLaws
+mod DriverLaws
+mod FollowLaws
+mod Marks
+mod SignalFaults
+mod SignalLaws
+mod TextLaws
