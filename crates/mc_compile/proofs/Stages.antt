@@ -1,6 +1,6 @@
 -- From the stages of a source to the whole source.
-use Rattle.std.proofs.Common.{◌≡◌, ◌≤◌, ℕ, List, length, Option, Some, None, refl, sym, subst}
-use Rattle.std.specs.Prelude.{Result, Ok, Err, IfOk, IfErr, IfSome}
+use Rattle.std.proofs.Common.{inl, inr, ◌≡◌, ◌≤◌, ℕ, List, length, Option, Some, None, refl, sym, subst}
+use Rattle.std.specs.Prelude.{Result, Ok, Err, IfOk, IfErr, IfSome, MatchResult, ◌⊎◌}
 use Rattle.mc_tree.specs.declared.fault.Fault.{Fault}
 use Rattle.mc_tree.specs.declared.place.Place.{Place}
 use Rattle.mc_tree.specs.declared.token.Token.{Token}
@@ -16,7 +16,7 @@ use Rattle.mc_straight.specs.Form.{Straight, IsStraight}
 use Rattle.mc_compile.specs.declared.refusal.Refusal.{Refusal}
 use Rattle.mc_compile.specs.declared.refusal.Refusal.TheVariants.{Source, TooLarge, NotYet, Memory}
 use Rattle.mc_compile.specs.Accepted.{IsParsed, unexpected, too_deep, IsTextFault, lexical, grammar, IsTyped, IsTreeFault, rule, IsAcceptedTree, IsTooLargeTree, IsAccepted, IsTooLarge, IsSourceFault, of_text, of_tree, IsNotBuilt, Refuses, IsRefused, IsNotCompiled, IsRefusedText, IsRefusedTree, IsRefusedProgram, IsOtherTree, IsNotCompiledTree, refusal_of}
-use Rattle.mc_compile.specs.Laws.{one_tree}
+use Rattle.mc_compile.specs.Laws.{one_tree, no_text_fault, text_fault_first}
 
 pub if_ok : {T E : Type 0} (P Q : T → Type 0) (r : Result T E) → ((x : T) → P x → Q x) → IfOk r P → IfOk r Q
 if_ok P Q (Ok x) f h = f x h
@@ -100,3 +100,12 @@ source_refused source tree tokens refusal parsed h =
 pub source_not_compiled : (source : List ℕ) (tree : Tree) (tokens : ℕ) (refusal : Refusal) → IsParsed source tree tokens → IsNotCompiledTree tree tokens refusal → IsNotCompiled source refusal
 source_not_compiled source tree tokens refusal parsed h =
     refuses_as (IsTreeFault tree tokens) (IsSourceFault source) (IsTooLargeTree tree tokens) (IsTooLarge source) (IsOtherTree tree tokens) (IsNotBuilt source) refusal (λ f t. of_tree tree tokens parsed t) (large_source source tree tokens parsed) (other_source source tree tokens parsed) h
+
+-- where its text has a fault, that is answered
+pub text_answered : (source : List ℕ) (result : Result Resolved Refusal) → IfOk result (IsAccepted source) → IfErr result (IsRefused source) → (fault : Fault) → IsTextFault source fault → MatchResult result (λ program. ⊥) (λ refusal. (refusal ≡ Memory) ⊎ (refusal ≡ Source fault.code fault.place))
+text_answered source (Ok program) accepted refused fault h = no_text_fault source accepted.faultless.tree accepted.faultless.tokens fault accepted.faultless.parsed h
+text_answered source (Err (Source code place)) accepted refused fault h =
+    let same = text_fault_first source fault (record { code = code; place = place }) h refused in inr (λ i. Source (same i).code (same i).place)
+text_answered source (Err TooLarge) accepted refused fault h = absurd (no_text_fault source refused.faultless.tree refused.faultless.tokens fault refused.faultless.parsed h)
+text_answered source (Err NotYet) accepted refused fault h = absurd refused
+text_answered source (Err Memory) accepted refused fault h = inl refl

@@ -6,10 +6,10 @@ use Rattle.mc_tree.specs.declared.place.Place.{Place}
 use Rattle.mc_tree.specs.declared.token.Token.{Token}
 use Rattle.mc_tree.specs.declared.tree.Tree.{Tree}
 use Rattle.mc_tree.specs.Programs.{IsTreeOf}
-use Rattle.mc_tree.specs.Laws.{Spells-unique, Spells-no_fault}
+use Rattle.mc_tree.specs.Laws.{Spells-unique, HasFirstFault-unique, Spells-no_fault}
 use Rattle.mc_tree.specs.Unique.{tokens_of-one_tree}
 use Rattle.mc_parse.specs.declared.fault.ParseFault.TheVariants.{Unexpected, TooDeep}
-use Rattle.mc_parse.specs.Verdicts.{no_fault}
+use Rattle.mc_parse.specs.Verdicts.{one_fault, no_fault}
 use Rattle.mc_prog.specs.declared.scoped.Naming.{Naming}
 use Rattle.mc_prog.specs.Resolved.{Resolved, IsTypeFault, program_of}
 use Rattle.mc_rules.specs.RuleFaults.{IsRuleFault}
@@ -40,6 +40,34 @@ no_text_fault source tree n fault h (lexical f) = Spells-no_fault h.read h.end f
 no_text_fault source tree n fault h (grammar tokens end spelled f) =
     let same = (Spells-unique h.read tokens h.end end source h.spelled spelled).0 in
     grammar_fault end tokens tree fault (subst (λ (l : List Token). IsTreeOf tree l) same h.parsed) f
+
+-- A text has one first fault.
+one_grammar_fault : (end : Place) (tokens : List Token) (f g : Fault) → IsGrammarFault end tokens f → IsGrammarFault end tokens g → f ≡ g
+one_grammar_fault end tokens f g (unexpected a h) (unexpected b k) =
+    let same = one_fault end tokens (Unexpected f.place) (Unexpected g.place) h k in
+    let places : f.place ≡ g.place = cc in
+    let codes_ = a ∙ sym b in
+    λ i. record { code = codes_ i; place = places i }
+one_grammar_fault end tokens f g (unexpected a h) (too_deep b k) = let same = one_fault end tokens (Unexpected f.place) (TooDeep g.place) h k in absurd (cc same)
+one_grammar_fault end tokens f g (too_deep a h) (unexpected b k) = let same = one_fault end tokens (TooDeep f.place) (Unexpected g.place) h k in absurd (cc same)
+one_grammar_fault end tokens f g (too_deep a h) (too_deep b k) =
+    let same = one_fault end tokens (TooDeep f.place) (TooDeep g.place) h k in
+    let places : f.place ≡ g.place = cc in
+    let codes_ = a ∙ sym b in
+    λ i. record { code = codes_ i; place = places i }
+
+one_text_fault : (source : List ℕ) (f g : Fault) → IsTextFault source f → IsTextFault source g → f ≡ g
+one_text_fault source f g (lexical h) (lexical k) = let same = HasFirstFault-unique f.code g.code f.place g.place source h k in λ i. record { code = same.0 i; place = same.1 i }
+one_text_fault source f g (lexical h) (grammar tokens end spelled k) = absurd (Spells-no_fault tokens end f.code f.place source spelled h)
+one_text_fault source f g (grammar tokens end spelled h) (lexical k) = absurd (Spells-no_fault tokens end g.code g.place source spelled k)
+one_text_fault source f g (grammar tokens end spelled h) (grammar others last also k) =
+    let same = Spells-unique others tokens last end source also spelled in
+    one_grammar_fault end tokens f g h (subst (λ (l : List Token). IsGrammarFault end l g) same.0 (subst (λ (e : Place). IsGrammarFault e others g) same.1 k))
+
+-- It is the first fault of the source.
+pub text_fault_first : (source : List ℕ) (f g : Fault) → IsTextFault source f → IsSourceFault source g → g ≡ f
+text_fault_first source f g h (of_text k) = one_text_fault source g f k h
+text_fault_first source f g h (of_tree tree tokens parsed k) = absurd (no_text_fault source tree tokens f parsed h)
 
 -- A tree of the straight-line form has one program.
 module _ (tree : Tree) (form : Straight) (s : IsStraight tree form) where

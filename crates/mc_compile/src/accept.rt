@@ -1,10 +1,11 @@
 // Which sources are accepted.
 
-ghost use Rattle.std.specs.Prelude.{◌≡◌, ◌≤◌, length, IfOk, IfErr};
+ghost use Rattle.std.specs.Prelude.{◌≡◌, ◌⊎◌, ◌≤◌, length, IfOk, IfErr, MatchResult};
+ghost use Rattle.mc_tree.specs.declared.fault.Fault.{Fault};
 ghost use Rattle.mc_prog.specs.Namings.{AreNamingsOf};
 ghost use Rattle.mc_resolve.specs.Refusals.{HasNoScopeFault};
 ghost use Rattle.mc_rules.specs.RuleFaults.{HasNoRuleFault};
-ghost use Rattle.mc_compile.specs.Accepted.{IsAccepted, IsAcceptedTree, IsRefused, IsRefusedProgram, IsRefusedTree};
+ghost use Rattle.mc_compile.specs.Accepted.{IsAccepted, IsAcceptedTree, IsTextFault, IsRefused, IsRefusedProgram, IsRefusedTree};
 
 use crate::front::parse_source;
 use crate::refusal::Refusal;
@@ -27,6 +28,18 @@ const MOST_WORDS: u32 = 20_000;
 /// `Source` has the first fault of the first stage that finds one, `TooLarge` comes where none does and the program takes
 /// more than 20,000 words, and `Memory`. `NotYet` never comes.
 pub fn accept(alloc: Global, source: &[u8]) -> Result<Program, Refusal>
+    requires { length source.now ≤ 262144 }
+    ensures ok { IfOk result (λ program. IsAccepted source.now program) }
+    ensures refused { IfErr result (λ refusal. IsRefused source.now refusal) }
+
+    // and so a fault of the text is answered
+    ensures refuses { (fault : Fault) → IsTextFault source.now fault → MatchResult result (λ program. ⊥) (λ refusal. (refusal ≡ Refusal.Memory) ⊎ (refusal ≡ Refusal.Source fault.code fault.place)) }
+{
+    accept_source(alloc, source)
+}
+
+// The program of a source, by its tree.
+fn accept_source(alloc: Global, source: &[u8]) -> Result<Program, Refusal>
     requires { length source.now ≤ 262144 }
     ensures ok { IfOk result (λ program. IsAccepted source.now program) }
     ensures refused { IfErr result (λ refusal. IsRefused source.now refusal) }

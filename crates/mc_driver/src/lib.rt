@@ -9,10 +9,6 @@ mod ending;
 mod files;
 mod refusal;
 mod run;
-#[cfg(test)]
-mod source_tests;
 mod status;
-#[cfg(test)]
-mod tests;
 
 pub use command::modula;

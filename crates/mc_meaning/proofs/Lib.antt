@@ -1,0 +1,9 @@
+pub mod StoreLaws
+pub mod ItemLaws
+pub mod BitLaws
+pub mod OpeningLaws
+pub mod WritingLaws
+pub mod EvaluationLaws
+pub mod ActionLaws
+pub mod FormLaws
+pub mod LabelLaws

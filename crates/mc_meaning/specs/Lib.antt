@@ -2,3 +2,16 @@ pub mod Config
 pub mod Evaluation
 pub mod Runs
 pub mod Exclusion
+pub mod Configuration
+pub mod Parts
+pub mod Access
+pub mod Operations
+pub mod Calling
+pub mod Actions
+pub mod Steps
+pub mod ProgramRuns
+pub mod Room
+pub mod StoredWords
+pub mod Kept
+pub mod Selected
+pub mod Stepping

@@ -4,6 +4,7 @@ mod CallLaws
 mod Designators
 mod DeviceLaws
 mod DriverLaws
+mod FirstLaws
 mod FollowLaws
 mod Marks
 mod SignalFaults

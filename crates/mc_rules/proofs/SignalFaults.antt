@@ -36,11 +36,11 @@ abbrev pub m7 : Place → Fault
 m7 place = record { code = code.M7; place = place }
 
 -- what a wait and a sending break, and where
-both-is : (w s : Signalling) (b : Bool) (f : Fault) → (w.variable == s.variable) ≡ b → both_fault w s ≡ Some f → (w.variable ≡ s.variable) × (f ≡ m7 (later w.place s.place))
+pub both-is : (w s : Signalling) (b : Bool) (f : Fault) → (w.variable == s.variable) ≡ b → both_fault w s ≡ Some f → (w.variable ≡ s.variable) × (f ≡ m7 (later w.place s.place))
 both-is w s true f e h = (grind (arith, e), sym (some-same (m7 (later w.place s.place)) f (sym (ap (λ (b : Bool). if b then fault code.M7 (later w.place s.place) else None) e) ∙ h)))
 both-is w s false f e h = absurd (none-some f (sym (ap (λ (b : Bool). if b then fault code.M7 (later w.place s.place) else None) e) ∙ h))
 
-both-of : (w s : Signalling) → w.variable ≡ s.variable → both_fault w s ≡ Some (m7 (later w.place s.place))
+pub both-of : (w s : Signalling) → w.variable ≡ s.variable → both_fault w s ≡ Some (m7 (later w.place s.place))
 both-of w s e = ap (λ (b : Bool). if b then fault code.M7 (later w.place s.place) else None) same
   where
     same : (w.variable == s.variable) ≡ true

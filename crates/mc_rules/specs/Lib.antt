@@ -1,6 +1,7 @@
 pub mod AnyOf
 pub mod Calls
 pub mod DeviceCode
+pub mod FirstPlaces
 pub mod Following
 pub mod Gathering
 pub mod Rules

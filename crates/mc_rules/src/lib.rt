@@ -54,7 +54,8 @@ fn device_fault(alloc: Global, program: &Program) -> Result<Option<Fault>, Memor
     let waits = signallings(alloc, program.nodes(), Way::Wait, calls.as_slice())?;
     let sends = signallings(alloc, program.nodes(), Way::Send, calls.as_slice())?;
     let ranks = ranks_fault(calls.as_slice());
-    Ok(earlier(ranks, both_ways_fault(waits.as_slice(), sends.as_slice())))
+    let both = both_ways_fault(alloc, waits.as_slice(), sends.as_slice())?;
+    Ok(earlier(ranks, both))
 }
 
 // The first fault of a program.

@@ -1,11 +1,12 @@
 // The rules of device code: no wait has a rank, and no signal is both waited on and sent to.
 
-ghost use Rattle.std.specs.Prelude.{◌≡◌, ◌↔◌, ℕ, OnOk, IfOk, Some};
+ghost use Rattle.std.specs.Prelude.{◌≡◌, ◌↔◌, ◌∷◌, ◌++◌, ℕ, List, [], OnOk, IfOk, Some};
 ghost use Rattle.mc_rules.specs.declared.call.Signalling.{Signalling};
 ghost use Rattle.std.specs.List.{Contains};
 ghost use Rattle.mc_rules.specs.AnyOf.{AnyOf, IsFirstOf};
-ghost use Rattle.mc_rules.specs.Rules.{has_rank, is_earlier, later, signal_of, both_fault, rank_fault};
-ghost use Rattle.mc_rules.specs.Signals.{AreSignallings, HasBothFault, IsBothFault, IsRankFaultOf, IsSignallingOf, IsVariableOf, signalling, with_signalling};
+ghost use Rattle.mc_rules.specs.Rules.{has_rank, is_earlier, later, signal_of, rank_fault};
+ghost use Rattle.mc_rules.specs.FirstPlaces.{AreFirstPlaces, HasSentFault, earliest, sent_fault};
+ghost use Rattle.mc_rules.specs.Signals.{AreSignallings, HasBothFault, IsRankFaultOf, IsSignallingOf, IsVariableOf, signalling, with_signalling};
 
 use crate::call::{Call, Called, Signalling, Way};
 use crate::calls::variable_of;
@@ -16,6 +17,7 @@ use mc_tree::fault::{Code, Fault};
 use mc_tree::place::Place;
 use mc_word::bytes::Memory;
 use std::alloc::Global;
+use std::collections::BTreeMap;
 
 fn has_rank(called: Called) -> bool
     ensures { result ≡ has_rank called }
@@ -118,34 +120,71 @@ pub fn signallings(
     Ok(found)
 }
 
-fn both_fault(wait: Signalling, send: Signalling) -> Option<Fault>
-    ensures { result ≡ both_fault wait send }
+// The earlier of two places, or the one that is there.
+fn earliest(known: Option<Place>, place: Place) -> Place
+    ensures { result ≡ earliest known place }
 {
-    if wait.variable == send.variable {
-        fault(Code::M7, later(wait.place, send.place))
-    } else {
-        None
+    match known {
+        Some(first) if !is_earlier(place, first) => first,
+        _ => place,
     }
 }
 
-// The first fault of one wait with these sendings.
-fn sends_fault(wait: Signalling, sends: &[Signalling]) -> Option<Fault>
-    ensures { IsFirstOf (AnyOf (IsBothFault wait) sends.now) result }
+// Notes one more place of a variable, where none that is known comes before it.
+fn note_first(firsts: &mut BTreeMap<u32, Place>, signalling: Signalling) -> Result<(), Memory>
+    ensures { OnOk result ((list : List Signalling) → AreFirstPlaces list firsts.old → AreFirstPlaces (list ++ (signalling ∷ [])) firsts.new) }
 {
-    let mut first = None;
-    for send in sends {
-        first = earlier(first, both_fault(wait, *send));
+    let known = firsts.get(&signalling.variable).copied();
+    firsts.insert(signalling.variable, earliest(known, signalling.place))?;
+    Ok(())
+}
+
+// The first place of each variable.
+fn first_places(alloc: Global, signallings: &[Signalling]) -> Result<BTreeMap<u32, Place>, Memory>
+    ensures { IfOk result (λ firsts. AreFirstPlaces signallings.now firsts) }
+{
+    let mut firsts = BTreeMap::new(alloc);
+    for signalling in signallings {
+        note_first(&mut firsts, *signalling)?;
     }
-    first
+    Ok(firsts)
+}
+
+// The fault of a sending there to a variable whose first wait stands here.
+fn sent_fault(first: Option<Place>, place: Place) -> Option<Fault>
+    ensures { result ≡ sent_fault first place }
+{
+    match first {
+        Some(first) => fault(Code::M7, later(first, place)),
+        None => None,
+    }
+}
+
+// The first fault of one sending with the waits that these places are the first of.
+fn send_fault(firsts: &BTreeMap<u32, Place>, send: Signalling) -> Option<Fault>
+    ensures { (waits : List Signalling) → AreFirstPlaces waits firsts.now → IsFirstOf (HasSentFault waits send) result }
+{
+    sent_fault(firsts.get(&send.variable).copied(), send.place)
 }
 
 /// The first fault of these waits with these sendings.
-pub fn both_ways_fault(waits: &[Signalling], sends: &[Signalling]) -> Option<Fault>
-    ensures { IsFirstOf (AnyOf (HasBothFault sends.now) waits.now) result }
+///
+/// A later wait on a variable has no earlier fault than the first one, so each sending is compared with that one alone.
+///
+/// # Errors
+///
+/// Want of memory.
+pub fn both_ways_fault(
+    alloc: Global,
+    waits: &[Signalling],
+    sends: &[Signalling],
+) -> Result<Option<Fault>, Memory>
+    ensures { IfOk result (λ found. IsFirstOf (AnyOf (HasBothFault sends.now) waits.now) found) }
 {
+    let firsts = first_places(alloc, waits)?;
     let mut first = None;
-    for wait in waits {
-        first = earlier(first, sends_fault(*wait, sends));
+    for send in sends {
+        first = earlier(first, send_fault(&firsts, *send));
     }
-    first
+    Ok(first)
 }

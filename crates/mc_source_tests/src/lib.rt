@@ -1,4 +1,5 @@
-// Sources with their first faults of words, grammar, scopes, types and rules, and the programs of those that have none.
+// Sources with their first faults of words, grammar, scopes, types and rules, and the programs of those that have none, with
+// runs of some of them.
 #![tactic(auto)]
 
 #[cfg(test)]
@@ -11,6 +12,10 @@ mod rows;
 mod rule_rows;
 #[cfg(test)]
 mod rule_tests;
+#[cfg(test)]
+mod run_tests;
+#[cfg(test)]
+mod runs;
 #[cfg(test)]
 mod scope_tests;
 #[cfg(test)]

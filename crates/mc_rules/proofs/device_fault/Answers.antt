@@ -25,10 +25,10 @@ returns c =
     (subst (λ (list : List Call). AreSignallings c.nodes-2.result.now ways.Send list sends) c.as_slice-2.ensures.value c.in_ok-sends.ensures) in
     let ranks : IsFirstOf (AnyOf IsRankFaultOf calls) c.ranks_fault-ranks.result =
     subst (λ (list : List Call). IsFirstOf (AnyOf IsRankFaultOf list) c.ranks_fault-ranks.result) c.as_slice-3.ensures.value c.ranks_fault-ranks.ensures in
-    let both : IsFirstOf (AnyOf (HasBothFault sends) waits) c.both_ways_fault.result =
-    subst (λ (list : List Signalling). IsFirstOf (AnyOf (HasBothFault sends) list) c.both_ways_fault.result) c.as_slice-4.ensures.value
-    (subst (λ (list : List Signalling). IsFirstOf (AnyOf (HasBothFault list) c.as_slice-4.result.now) c.both_ways_fault.result) c.as_slice-5.ensures.value c.both_ways_fault.ensures) in
-    first-either (IsRankFault p) (IsBothWaysFault p) c.ranks_fault-ranks.result c.both_ways_fault.result c.earlier.result
+    let both : IsFirstOf (AnyOf (HasBothFault sends) waits) c.in_ok-both.both =
+    subst (λ (list : List Signalling). IsFirstOf (AnyOf (HasBothFault sends) list) c.in_ok-both.both) c.as_slice-4.ensures.value
+    (subst (λ (list : List Signalling). IsFirstOf (AnyOf (HasBothFault list) c.as_slice-4.result.now) c.in_ok-both.both) c.as_slice-5.ensures.value c.in_ok-both.ensures) in
+    first-either (IsRankFault p) (IsBothWaysFault p) c.ranks_fault-ranks.result c.in_ok-both.both c.earlier.result
     (ranks-first p calls c.ranks_fault-ranks.result c.in_ok-calls.ensures ranks)
-    (both-first p calls waits sends c.both_ways_fault.result c.in_ok-calls.ensures waited sent both)
+    (both-first p calls waits sends c.in_ok-both.both c.in_ok-calls.ensures waited sent both)
     c.earlier.ensures

@@ -1,0 +1,8 @@
+use Rattle.std.proofs.Common.{ap, ◌∙◌}
+use Rattle.mc_meaning.specs.Configuration.{Configuration}
+use Rattle.mc_meaning.specs.Steps.{goes_on}
+use Rattle.mc_meaning.proofs.evaluation.clear_word.Goals as goal
+
+-- src/evaluation.rt
+pub returns-clause-ok : goal.returns-clause-ok
+returns-clause-ok c = c.goes_on.ensures ∙ ap (λ (d : Configuration). goes_on d c.args.n c.args.q.now c.args.q.now.found c.args.rest.now.items) c.in_ok-put_word.ensures.ok
