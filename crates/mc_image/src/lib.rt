@@ -5,8 +5,6 @@ mod bytes;
 pub mod fault;
 pub mod image;
 mod read;
-#[cfg(test)]
-mod tests;
 mod write;
 
 pub use read::read_image;

@@ -5,5 +5,3 @@ pub mod digits;
 pub mod ending;
 pub mod lines;
 pub mod pieces;
-#[cfg(test)]
-mod tests;

@@ -8,8 +8,6 @@ mod number;
 mod quoted;
 mod symbol;
 mod taken;
-#[cfg(test)]
-mod tests;
 mod token;
 mod word;
 

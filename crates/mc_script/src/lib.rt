@@ -10,7 +10,5 @@ mod number;
 mod read;
 pub mod script;
 mod setting;
-#[cfg(test)]
-mod tests;
 
 pub use read::read_script;

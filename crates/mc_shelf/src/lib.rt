@@ -7,5 +7,3 @@ pub mod files;
 pub mod mem;
 pub mod shelf;
 pub mod sound;
-#[cfg(test)]
-mod tests;

@@ -10,5 +10,3 @@ pub mod locate;
 pub mod operands;
 pub mod registers;
 pub mod signed;
-#[cfg(test)]
-mod tests;

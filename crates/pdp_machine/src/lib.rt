@@ -6,5 +6,3 @@ pub mod machine;
 pub mod opening;
 pub mod queue;
 pub mod stop;
-#[cfg(test)]
-mod tests;

@@ -2,7 +2,7 @@
 
 ghost use Rattle.std.specs.Prelude.{◌≤◌, length};
 
-use crate::scan;
+use mc_scan::scan;
 use mc_tree::token::{Kind, Token};
 use std::alloc::Global;
 use std::test::Fail;

@@ -1,6 +1,6 @@
 // Words and settings as they are written.
 
-use crate::{Command, SettingFault, WordFault, read_settings, read_words};
+use mc_words::{Command, SettingFault, WordFault, read_settings, read_words};
 use std::alloc::{AllocError, Global};
 use std::test::Fail;
 

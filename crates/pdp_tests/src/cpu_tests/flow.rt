@@ -1,9 +1,9 @@
 // Where instructions and grants lead, what they do to PS and the devices, and where they stop.
 
 use super::{core_at, run};
-use crate::grant::interrupt;
-use crate::instruction::execute;
 use arrayvec::ArrayVec;
+use pdp_cpu::grant::interrupt;
+use pdp_cpu::instruction::execute;
 use pdp_def::outcome::Outcome;
 use pdp_dev::devices::{Devices, Request};
 use pdp_dev::entry::{Entry, Event, Port};

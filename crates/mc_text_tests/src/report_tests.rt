@@ -2,10 +2,10 @@
 
 ghost use Rattle.std.specs.Prelude.{◌≡◌, ◌<◌, length};
 
-use crate::digits::decimal_digits;
-use crate::ending::Ending;
-use crate::lines::{last_lines, line_of, report};
-use crate::pieces::Pieces;
+use mc_report::digits::decimal_digits;
+use mc_report::ending::Ending;
+use mc_report::lines::{last_lines, line_of, report};
+use mc_report::pieces::Pieces;
 use pdp_dev::entry::{Entry, Event, Port};
 use std::test::Fail;
 

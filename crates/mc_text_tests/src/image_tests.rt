@@ -1,8 +1,8 @@
 // What no clause says: that the format is the one of the handbook, and that calls succeed where there is memory.
 
-use crate::fault::ImageFault;
-use crate::image::{Block, Image};
-use crate::{read_image, write_image};
+use mc_image::fault::ImageFault;
+use mc_image::image::{Block, Image};
+use mc_image::{read_image, write_image};
 use mc_word::bytes::Bytes;
 use std::alloc::Global;
 use std::process::Abort;

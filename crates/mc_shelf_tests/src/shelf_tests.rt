@@ -1,10 +1,10 @@
 // What the shelves in memory answer, call by call.
 
-use crate::ask::Ask;
-use crate::files::MemFile;
-use crate::mem::MemShelf;
-use crate::shelf::{LoadFault, PutFault, Shelf};
-use crate::sound::SoundShelf;
+use mc_shelf::ask::Ask;
+use mc_shelf::files::MemFile;
+use mc_shelf::mem::MemShelf;
+use mc_shelf::shelf::{LoadFault, PutFault, Shelf};
+use mc_shelf::sound::SoundShelf;
 use mc_word::bytes::{Bytes, Memory, Text};
 use std::alloc::Global;
 use std::test::Fail;

@@ -1,8 +1,8 @@
 // What no clause says: that the definitions mean these texts, and that calls succeed where there is memory.
 
-use crate::fault::ScriptFault;
-use crate::read_script;
-use crate::script::Script;
+use mc_script::fault::ScriptFault;
+use mc_script::read_script;
+use mc_script::script::Script;
 use std::alloc::Global;
 use std::test::Fail;
 

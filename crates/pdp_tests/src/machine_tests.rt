@@ -2,12 +2,12 @@
 
 ghost use Rattle.std.specs.Prelude.{◌≤◌};
 
-use crate::machine::Machine;
-use crate::stop::Stop;
 use mc_image::image::{Block, Image};
 use mc_script::script::Script;
 use mc_word::bytes::{Bytes, Memory};
 use pdp_dev::entry::{Entry, Event};
+use pdp_machine::machine::Machine;
+use pdp_machine::stop::Stop;
 use std::alloc::Global;
 use std::test::Fail;
 

@@ -2,10 +2,10 @@
 
 ghost use Rattle.std.specs.Prelude.{◌≡◌, false, IfOk};
 
-use crate::instruction::execute;
 use arrayvec::ArrayVec;
 use mc_word::Word;
 use mc_word::bytes::Memory;
+use pdp_cpu::instruction::execute;
 use pdp_def::outcome::Outcome;
 use pdp_def::processor::Core;
 use pdp_dev::devices::Devices;

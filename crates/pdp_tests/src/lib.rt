@@ -1,0 +1,7 @@
+// What no clause says: that the definitions of instructions, grants and runs are those of the handbooks.
+#![tactic(auto)]
+
+#[cfg(test)]
+mod cpu_tests;
+#[cfg(test)]
+mod machine_tests;
