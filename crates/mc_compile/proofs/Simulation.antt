@@ -13,15 +13,15 @@ use Rattle.pdp_dev.specs.declared.entry.Event.{Event}
 use Rattle.pdp_dev.specs.declared.entry.Port.{Port}
 use Rattle.pdp_dev.specs.declared.entry.Port.TheVariants.{Printer, Punch}
 use Rattle.pdp_dev.specs.declared.entry.Entry.{Entry}
-use Rattle.pdp_dev.specs.Devices.{written, request_of, said_at}
+use Rattle.pdp_dev.specs.Devices.{written, IsEvent, request_of, said_at}
 use Rattle.pdp_def.specs.declared.outcome.Outcome.{Outcome}
 use Rattle.pdp_def.specs.State.{CoreState}
 use Rattle.pdp_def.specs.Does.{bus, After, entries, is_bad, put_word, write_word}
 use Rattle.pdp_def.specs.Perform.{bit, with_codes, moved_codes, sets, attempt, or_nothing, effect}
 use Rattle.pdp_def.specs.Laws.{HasAt, HasAt-set, core_of, move_law, wait_law}
 use Rattle.pdp_def.specs.Moments.{MachineState, Occurs as OccursMoment, Grants as GrantsMoment, Executes, happens, executed, IsPossible, is_above, priority_of}
-use Rattle.mc_prog.specs.Program.{CellInfo, Program}
-use Rattle.mc_meaning.specs.Config.{Main, Acting, Ended, CallsBody, Runs, Returns, Ends, Activation, Process, Config}
+use Rattle.mc_prog.specs.Program.{CellInfo, Designator, Expression, Program, Statement}
+use Rattle.mc_meaning.specs.Config.{Main, Acting, Ended, Finished, Item, CallsBody, Runs, Names, Evaluates, Writes, Returns, Ends, Activation, Process, Config}
 use Rattle.mc_meaning.specs.Evaluation.{target_of, write_target}
 use Rattle.mc_meaning.specs.Runs.{Step, Occurs, Evals, steps, IsStep, earns}
 use Rattle.mc_straight.specs.declared.form.Put.{Put}
@@ -206,6 +206,54 @@ writes_port : (v w : ℕ) (port : Port) (c : Config) → write_target (target_of
 writes_port v w Printer c = refl
 writes_port v w Punch c = refl
 
+-- What shows that a step changes the configuration: of its first process the calls, what was found, and the first item.
+
+abbrev calls_in : List Process → List Activation
+calls_in [] = []
+calls_in (q ∷ processes) = q.activations
+
+abbrev calls_of : Config → List Activation
+calls_of c = calls_in c.processes
+
+abbrev found_in : List Process → List Finished
+found_in [] = []
+found_in (q ∷ processes) = q.finished
+
+abbrev found_of : Config → List Finished
+found_of c = found_in c.processes
+
+abbrev first_item : List Item → Option Item
+first_item [] = None
+first_item (item ∷ rest) = Some item
+
+abbrev first_in : List Process → Option Item
+first_in [] = None
+first_in (q ∷ processes) = first_item q.rest
+
+abbrev first_of : Config → Option Item
+first_of c = first_in c.processes
+
+calls_differ : {a b c : Activation} → a ∷ b ∷ [] ≡ c ∷ [] → ⊥
+calls_differ e = cc
+
+none_found : {f : Finished} {found : List Finished} → [] ≡ f ∷ found → ⊥
+none_found e = cc
+
+runs_names : {d : Designator} {s : Statement} → Some (Names d) ≡ Some (Runs s) → ⊥
+runs_names e = cc
+
+names_evaluates : {x : Expression} {d : Designator} → Some (Evaluates x) ≡ Some (Names d) → ⊥
+names_evaluates e = cc
+
+evaluates_writes : {x : Expression} → Some Writes ≡ Some (Evaluates x) → ⊥
+evaluates_writes e = cc
+
+ends_returns : Some Ends ≡ Some Returns → ⊥
+ends_returns e = cc
+
+none_ends : None ≡ Some Ends → ⊥
+none_ends e = cc
+
 module _ (form : Straight) where
   abbrev program : Program
   program = program_of form
@@ -213,36 +261,42 @@ module _ (form : Straight) where
   free : (p : ℕ) (d : Devices) → IsQuiet d → is_above p (request_of d) ≡ false
   free p d q = ap (is_above p) (quiet_none d q)
 
-  enters : (d : Devices) (j : List Entry) → IsQuiet d → IsRunOf (steps program) IsStep (config_at form Before d j) (Evals ∷ []) × (after (steps program) (config_at form Before d j) (Evals ∷ []) ≡ config_at form (Inside form.puts) d j)
-  enters d j q = (((refl, free 0 d q, refl), tt), refl)
+  enters : (d : Devices) (j : List Entry) → IsQuiet d → IsRunOf (steps program) (IsStep program) (config_at form Before d j) (Evals ∷ []) × (after (steps program) (config_at form Before d j) (Evals ∷ []) ≡ config_at form (Inside form.puts) d j)
+  enters d j q = (((refl, free 0 d q, refl, λ e. calls_differ (ap calls_of e)), tt), refl)
 
-  puts_one : (put : Put) (puts : List Put) (d : Devices) (j : List Entry) → IsQuiet d → slice_get form.variables put.variable ≡ Some put.port → IsRunOf (steps program) IsStep (config_at form (Inside (put ∷ puts)) d j) (Evals ∷ Evals ∷ Evals ∷ Evals ∷ []) × (after (steps program) (config_at form (Inside (put ∷ puts)) d j) (Evals ∷ Evals ∷ Evals ∷ Evals ∷ []) ≡ config_at form (Inside puts) (written d (register_of put.port) put.byte) (j ++ entries (said_at d (register_of put.port) put.byte)))
+  puts_one : (put : Put) (puts : List Put) (d : Devices) (j : List Entry) → IsQuiet d → slice_get form.variables put.variable ≡ Some put.port → IsRunOf (steps program) (IsStep program) (config_at form (Inside (put ∷ puts)) d j) (Evals ∷ Evals ∷ Evals ∷ Evals ∷ []) × (after (steps program) (config_at form (Inside (put ∷ puts)) d j) (Evals ∷ Evals ∷ Evals ∷ Evals ∷ []) ≡ config_at form (Inside puts) (written d (register_of put.port) put.byte) (j ++ entries (said_at d (register_of put.port) put.byte)))
   puts_one put puts d j q known =
-      let ok : IsStep (config_at form (Inside (put ∷ puts)) d j) Evals = (refl, free form.priority d q, refl) in
       let cell = slice_get-map cell_of form.variables put.variable ∙ ap (option_map cell_of) known in
       let before : Config = config_at form (Inside puts) d j in
-      ((ok, (ok, (ok, (ok, tt)))), ap (λ (o : Option CellInfo). write_target (target_of put.variable o) put.byte before) cell ∙ writes_port put.variable put.byte put.port before)
+      let written_is = ap (λ (o : Option CellInfo). write_target (target_of put.variable o) put.byte before) cell ∙ writes_port put.variable put.byte put.port before in
+      let may = free form.priority d q in (
+        (
+          (refl, may, refl, λ e. runs_names (ap first_of e)),
+          ((refl, may, refl, λ e. names_evaluates (ap first_of e)), ((refl, may, refl, λ e. evaluates_writes (ap first_of e)), ((refl, may, refl, λ e. none_found (sym (ap found_of written_is) ∙ ap found_of e)), tt))),
+        ),
+        written_is,
+      )
 
-  leaves : (d : Devices) (j : List Entry) → IsQuiet d → IsRunOf (steps program) IsStep (config_at form (Inside []) d j) (Evals ∷ []) × (after (steps program) (config_at form (Inside []) d j) (Evals ∷ []) ≡ config_at form Behind d j)
-  leaves d j q = (((refl, free form.priority d q, refl), tt), refl)
+  leaves : (d : Devices) (j : List Entry) → IsQuiet d → IsRunOf (steps program) (IsStep program) (config_at form (Inside []) d j) (Evals ∷ []) × (after (steps program) (config_at form (Inside []) d j) (Evals ∷ []) ≡ config_at form Behind d j)
+  leaves d j q = (((refl, free form.priority d q, refl, λ e. ends_returns (ap first_of e)), tt), refl)
 
-  ends : (d : Devices) (j : List Entry) → IsQuiet d → IsRunOf (steps program) IsStep (config_at form Behind d j) (Evals ∷ []) × (after (steps program) (config_at form Behind d j) (Evals ∷ []) ≡ config_at form Done d j)
-  ends d j q = (((refl, free 0 d q, refl), tt), refl)
+  ends : (d : Devices) (j : List Entry) → IsQuiet d → IsRunOf (steps program) (IsStep program) (config_at form Behind d j) (Evals ∷ []) × (after (steps program) (config_at form Behind d j) (Evals ∷ []) ≡ config_at form Done d j)
+  ends d j q = (((refl, free 0 d q, refl, λ e. none_ends (ap first_of e)), tt), refl)
 
   -- One moment, whichever it is
 
   abbrev Caught : MachineState → Config → ℕ → Type 0
-  Caught m c n = Catches happens IsPossible (steps program) IsStep earns (IsRelated form) m c n
+  Caught m c n = Catches happens IsPossible (steps program) (IsStep program) earns (IsRelated form) m c n
 
   -- an event: the devices change alike
-  follows_event : (m : MachineState) (c : Config) (n : ℕ) (e : Event) → IsRelated form m c n → Caught (happens m (OccursMoment e)) c n
-  follows_event m c n e r =
+  follows_event : (m : MachineState) (c : Config) (n : ℕ) (e : Event) → IsEvent e → IsRelated form m c n → Caught (happens m (OccursMoment e)) c n
+  follows_event m c n e possible r =
       let m' : MachineState = happens m (OccursMoment e) in
       let same : steps program c (Occurs e) ≡ config_at form r.phase m'.devices m'.journal = ap (λ (c : Config). steps program c (Occurs e)) r.config in
       let e0 : n ≡ n + 0 = omega arith in (
         Occurs e ∷ [],
         (
-          (tt, tt),
+          (possible, tt),
           subst (λ (k : ℕ). IsRelated form m' (steps program c (Occurs e)) k) e0 (record {
             phase = r.phase;
             config = same;
@@ -275,7 +329,7 @@ module _ (form : Straight) where
       }
 
   -- some evaluation steps lead on to where the instruction led
-  caught : (phase : Phase) (m : MachineState) (m' : MachineState) (more : List Step) (d d' : Devices) (j j' : List Entry) (n : ℕ) (next : Phase) → happens m Executes ≡ m' → IsRunOf (steps program) IsStep (config_at form phase d j) more × (after (steps program) (config_at form phase d j) more ≡ config_at form next d' j') → IsRelated form m' (config_at form next d' j') (n + total earns more) → Caught (happens m Executes) (config_at form phase d j) n
+  caught : (phase : Phase) (m : MachineState) (m' : MachineState) (more : List Step) (d d' : Devices) (j j' : List Entry) (n : ℕ) (next : Phase) → happens m Executes ≡ m' → IsRunOf (steps program) (IsStep program) (config_at form phase d j) more × (after (steps program) (config_at form phase d j) more ≡ config_at form next d' j') → IsRelated form m' (config_at form next d' j') (n + total earns more) → Caught (happens m Executes) (config_at form phase d j) n
   caught phase m m' more d d' j j' n next e run r =
       let r1 = subst (λ (c : Config). IsRelated form m' c (n + total earns more)) (sym run.1) r in
       (more, (run.0, subst (λ (x : MachineState). IsRelated form x (after (steps program) (config_at form phase d j) more) (n + total earns more)) (sym e) r1))
@@ -324,8 +378,8 @@ module _ (form : Straight) where
       })
 
   -- every moment is followed
-  pub follows : (4 ≤ form.priority) × (form.priority ≤ 7) → Simulates happens IsPossible (steps program) IsStep earns (IsRelated form)
-  follows bounds m c n (OccursMoment e) r h = follows_event m c n e r
+  pub follows : (4 ≤ form.priority) × (form.priority ≤ 7) → Simulates happens IsPossible (steps program) (IsStep program) earns (IsRelated form)
+  follows bounds m c n (OccursMoment e) r h = follows_event m c n e h.1 r
   follows bounds m c n GrantsMoment r h = absurd (false≢true (sym (free (priority_of m.core.ps) m.devices r.quiet) ∙ h.1))
   follows bounds m c n Executes r h = subst (λ (c' : Config). Caught (happens m Executes) c' n) (sym r.config) (go r.phase r.known r.stands)
     where

@@ -16,7 +16,7 @@ use Rattle.mc_straight.specs.Form.{Straight, IsStraight}
 use Rattle.mc_compile.specs.declared.refusal.Refusal.{Refusal}
 use Rattle.mc_compile.specs.declared.refusal.Refusal.TheVariants.{Source, TooLarge, NotYet, Memory}
 use Rattle.mc_compile.specs.Accepted.{IsParsed, unexpected, too_deep, IsTextFault, lexical, grammar, IsTyped, IsTreeFault, rule, IsAcceptedTree, IsTooLargeTree, IsAccepted, IsTooLarge, IsSourceFault, of_text, of_tree, IsNotBuilt, Refuses, IsRefused, IsNotCompiled, IsRefusedText, IsRefusedTree, IsRefusedProgram, IsOtherTree, IsNotCompiledTree, refusal_of}
-use Rattle.mc_compile.specs.Laws.{one_tree, no_text_fault, text_fault_first}
+use Rattle.mc_compile.specs.Laws.{one_tree, one_source_fault, faultless_no_fault, one_program, accepted_not_large}
 
 pub if_ok : {T E : Type 0} (P Q : T → Type 0) (r : Result T E) → ((x : T) → P x → Q x) → IfOk r P → IfOk r Q
 if_ok P Q (Ok x) f h = f x h
@@ -101,11 +101,26 @@ pub source_not_compiled : (source : List ℕ) (tree : Tree) (tokens : ℕ) (refu
 source_not_compiled source tree tokens refusal parsed h =
     refuses_as (IsTreeFault tree tokens) (IsSourceFault source) (IsTooLargeTree tree tokens) (IsTooLarge source) (IsOtherTree tree tokens) (IsNotBuilt source) refusal (λ f t. of_tree tree tokens parsed t) (large_source source tree tokens parsed) (other_source source tree tokens parsed) h
 
--- where its text has a fault, that is answered
-pub text_answered : (source : List ℕ) (result : Result Resolved Refusal) → IfOk result (IsAccepted source) → IfErr result (IsRefused source) → (fault : Fault) → IsTextFault source fault → MatchResult result (λ program. ⊥) (λ refusal. (refusal ≡ Memory) ⊎ (refusal ≡ Source fault.code fault.place))
-text_answered source (Ok program) accepted refused fault h = no_text_fault source accepted.faultless.tree accepted.faultless.tokens fault accepted.faultless.parsed h
-text_answered source (Err (Source code place)) accepted refused fault h =
-    let same = text_fault_first source fault (record { code = code; place = place }) h refused in inr (λ i. Source (same i).code (same i).place)
-text_answered source (Err TooLarge) accepted refused fault h = absurd (no_text_fault source refused.faultless.tree refused.faultless.tokens fault refused.faultless.parsed h)
-text_answered source (Err NotYet) accepted refused fault h = absurd refused
-text_answered source (Err Memory) accepted refused fault h = inl refl
+-- What the source is, is answered.
+
+pub accepted_answered : (source : List ℕ) (result : Result Resolved Refusal) → IfOk result (IsAccepted source) → IfErr result (IsRefused source) → (program : Resolved) → IsAccepted source program → MatchResult result (λ p. p ≡ program) (λ refusal. refusal ≡ Memory)
+accepted_answered source (Ok p) accepted refused program h = one_program source p program accepted.faultless h.faultless
+accepted_answered source (Err (Source code place)) accepted refused program h = absurd (faultless_no_fault source program (record { code = code; place = place }) h.faultless refused)
+accepted_answered source (Err TooLarge) accepted refused program h = absurd (accepted_not_large source program h refused)
+accepted_answered source (Err NotYet) accepted refused program h = absurd refused
+accepted_answered source (Err Memory) accepted refused program h = refl
+
+pub fault_answered : (source : List ℕ) (result : Result Resolved Refusal) → IfOk result (IsAccepted source) → IfErr result (IsRefused source) → (fault : Fault) → IsSourceFault source fault → MatchResult result (λ program. ⊥) (λ refusal. (refusal ≡ Memory) ⊎ (refusal ≡ Source fault.code fault.place))
+fault_answered source (Ok program) accepted refused fault h = faultless_no_fault source program fault accepted.faultless h
+fault_answered source (Err (Source code place)) accepted refused fault h =
+    let same = one_source_fault source (record { code = code; place = place }) fault refused h in inr (λ i. Source (same i).code (same i).place)
+fault_answered source (Err TooLarge) accepted refused fault h = absurd (faultless_no_fault source refused.program fault refused.faultless h)
+fault_answered source (Err NotYet) accepted refused fault h = absurd refused
+fault_answered source (Err Memory) accepted refused fault h = inl refl
+
+pub size_answered : (source : List ℕ) (result : Result Resolved Refusal) → IfOk result (IsAccepted source) → IfErr result (IsRefused source) → IsTooLarge source → MatchResult result (λ program. ⊥) (λ refusal. (refusal ≡ Memory) ⊎ (refusal ≡ TooLarge))
+size_answered source (Ok program) accepted refused h = accepted_not_large source program accepted h
+size_answered source (Err (Source code place)) accepted refused h = absurd (faultless_no_fault source h.program (record { code = code; place = place }) h.faultless refused)
+size_answered source (Err TooLarge) accepted refused h = inr refl
+size_answered source (Err NotYet) accepted refused h = absurd refused
+size_answered source (Err Memory) accepted refused h = inl refl

@@ -167,8 +167,8 @@ module _ (form : Straight) (bounds : Bounds) (one : 1 ≤ bounds.processes) wher
   pub compiled : (4 ≤ form.priority) × (form.priority ≤ 7) → 4096 + length (code_of form) ≤ 28672 → AreKnown form form.puts → Compiled (program_of form) bounds (image_of (code_of form))
   compiled level room known moments possible =
       let program : Program = program_of form in
-      let t = tracked happens IsPossible (steps program) IsStep earns (IsRelated form) (follows form level) (opened (image_of (code_of form))) (opening_config program) (opening_related room known) moments possible in
-      weaker (Simulated happens IsPossible (steps program) IsStep earns (IsRelated form) (opened (image_of (code_of form))) (opening_config program)) (Tracked program bounds (image_of (code_of form))) moments
+      let t = tracked happens IsPossible (steps program) (IsStep program) earns (IsRelated form) (follows form level) (opened (image_of (code_of form))) (opening_config program) (opening_related room known) moments possible in
+      weaker (Simulated happens IsPossible (steps program) (IsStep program) earns (IsRelated form) (opened (image_of (code_of form))) (opening_config program)) (Tracked program bounds (image_of (code_of form))) moments
       (λ done ups s. record { is_run = s.is_run; agrees = agrees _ _ _ s.related }) t
 
 -- What the form of the tree gives

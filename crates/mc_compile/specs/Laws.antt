@@ -1,5 +1,5 @@
--- A source that is compiled has no fault, and is not too large.
-use Rattle.std.specs.Prelude.{◌≡◌, ℕ, List, length, refl}
+-- A source is one of three: accepted, too large, or one with a first fault; and it has one program, or one first fault.
+use Rattle.std.specs.Prelude.{◌≡◌, ℕ, List, length}
 use Rattle.std.proofs.Common.{ap, sym, ◌∙◌, subst, arith}
 use Rattle.mc_tree.specs.declared.fault.Fault.{Fault}
 use Rattle.mc_tree.specs.declared.place.Place.{Place}
@@ -11,13 +11,14 @@ use Rattle.mc_tree.specs.Unique.{tokens_of-one_tree}
 use Rattle.mc_parse.specs.declared.fault.ParseFault.TheVariants.{Unexpected, TooDeep}
 use Rattle.mc_parse.specs.Verdicts.{one_fault, no_fault}
 use Rattle.mc_prog.specs.declared.scoped.Naming.{Naming}
+use Rattle.mc_prog.specs.First.{IsFirst}
+use Rattle.mc_prog.specs.FirstLaws.{one_first}
+use Rattle.mc_prog.specs.Scopes.{IsScopeFault}
+use Rattle.mc_prog.specs.Namings.{AreNamingsOf}
+use Rattle.mc_prog.specs.NamingLaws.{one_naming}
 use Rattle.mc_prog.specs.Resolved.{Resolved, IsTypeFault, program_of}
 use Rattle.mc_rules.specs.RuleFaults.{IsRuleFault}
-use Rattle.mc_image.specs.Image.{ImageState}
-use Rattle.mc_straight.specs.Form.{Straight, IsStraight}
-use Rattle.mc_compile.specs.Accepted.{IsParsed, IsGrammarFault, unexpected, too_deep, IsTextFault, lexical, grammar, IsTyped, IsTreeFault, scope, type, rule, IsTooLarge, IsSourceFault, of_text, of_tree}
-use Rattle.mc_compile.specs.Names.{straight_naming}
-use Rattle.mc_compile.specs.Tracks.{CompiledFrom}
+use Rattle.mc_compile.specs.Accepted.{IsParsed, IsGrammarFault, unexpected, too_deep, IsTextFault, lexical, grammar, IsTyped, IsTreeFault, scope, type, rule, IsFaultlessTree, IsFaultless, IsAccepted, IsTooLarge, IsSourceFault, of_text, of_tree}
 
 -- A source has one tree.
 one_read : (source : List ℕ) (tree other : Tree) (n m : ℕ) (h : IsParsed source tree n) (k : IsParsed source other m) → h.read ≡ k.read
@@ -64,49 +65,62 @@ one_text_fault source f g (grammar tokens end spelled h) (grammar others last al
     let same = Spells-unique others tokens last end source also spelled in
     one_grammar_fault end tokens f g h (subst (λ (l : List Token). IsGrammarFault end l g) same.0 (subst (λ (e : Place). IsGrammarFault e others g) same.1 k))
 
--- It is the first fault of the source.
-pub text_fault_first : (source : List ℕ) (f g : Fault) → IsTextFault source f → IsSourceFault source g → g ≡ f
-text_fault_first source f g h (of_text k) = one_text_fault source g f k h
-text_fault_first source f g h (of_tree tree tokens parsed k) = absurd (no_text_fault source tree tokens f parsed h)
+-- A tree has one program.
+one_typed : (tree : Tree) (n : ℕ) (p q : Resolved) → IsTyped tree n p → IsTyped tree n q → p ≡ q
+one_typed tree n p q h k =
+    h.program_is ∙ ap (λ (names : List Naming). program_of tree names n) (one_naming tree h.names k.names h.names_are k.names_are) ∙ sym k.program_is
 
--- A tree of the straight-line form has one program.
-module _ (tree : Tree) (form : Straight) (s : IsStraight tree form) where
-  one_typed : (n : ℕ) (p q : Resolved) → IsTyped tree n p → IsTyped tree n q → p ≡ q
-  one_typed n p q h k =
-      h.program_is ∙ ap (λ (names : List Naming). program_of tree names n) (straight_naming tree form h.names k.names s h.names_are k.names_are) ∙ sym k.program_is
+-- Where its types have no fault with one list of its names, they have none with any.
+typed_no_fault : (tree : Tree) (names : List Naming) (n : ℕ) (p : Resolved) (fault : Fault) → IsTyped tree n p → AreNamingsOf tree names → IsTypeFault tree names fault → ⊥
+typed_no_fault tree names n p fault h are f =
+    h.no_type_fault fault (subst (λ (l : List Naming). IsTypeFault tree l fault) (one_naming tree names h.names are h.names_are) f)
 
-  -- where it has no fault, it has none
-  no_tree_fault : (n : ℕ) (p : Resolved) (fault : Fault) → (h : IsTyped tree n p) → ((f : Fault) → IsRuleFault p f → ⊥) → IsTreeFault tree n fault → ⊥
-  no_tree_fault n p fault h kept (scope f) = h.no_scope_fault fault f.is_fault
-  no_tree_fault n p fault h kept (type names none are f) =
-      let same = straight_naming tree form names h.names s are h.names_are in
-      h.no_type_fault fault (subst (λ (l : List Naming). IsTypeFault tree l fault) same f.is_fault)
-  no_tree_fault n p fault h kept (rule q typed f) = kept fault (subst (λ (r : Resolved). IsRuleFault r fault) (one_typed n q p typed h) f.is_fault)
+-- A tree without faults has no first fault.
+no_tree_fault : (tree : Tree) (n : ℕ) (p : Resolved) (fault : Fault) → IsFaultlessTree tree n p → IsTreeFault tree n fault → ⊥
+no_tree_fault tree n p fault h (scope f) = h.typed.no_scope_fault fault f.is_fault
+no_tree_fault tree n p fault h (type names none are f) = typed_no_fault tree names n p fault h.typed are f.is_fault
+no_tree_fault tree n p fault h (rule q typed f) = h.no_rule_fault fault (subst (λ (r : Resolved). IsRuleFault r fault) (one_typed tree n q p typed h.typed) f.is_fault)
 
--- What is compiled from a source
+-- Another has one.
+one_tree_fault : (tree : Tree) (n : ℕ) (f g : Fault) → IsTreeFault tree n f → IsTreeFault tree n g → f ≡ g
+one_tree_fault tree n f g (scope h) (scope k) = one_first (IsScopeFault tree) f g h k
+one_tree_fault tree n f g (scope h) (type names none are k) = absurd (none f h.is_fault)
+one_tree_fault tree n f g (scope h) (rule p typed k) = absurd (typed.no_scope_fault f h.is_fault)
+one_tree_fault tree n f g (type names none are h) (scope k) = absurd (none g k.is_fault)
+one_tree_fault tree n f g (type names none are h) (type others also too k) =
+    one_first (IsTypeFault tree names) f g h (subst (λ (l : List Naming). IsFirst (IsTypeFault tree l) g) (one_naming tree others names too are) k)
+one_tree_fault tree n f g (type names none are h) (rule p typed k) = absurd (typed_no_fault tree names n p f typed are h.is_fault)
+one_tree_fault tree n f g (rule p typed h) (scope k) = absurd (typed.no_scope_fault g k.is_fault)
+one_tree_fault tree n f g (rule p typed h) (type names none are k) = absurd (typed_no_fault tree names n p g typed are k.is_fault)
+one_tree_fault tree n f g (rule p typed h) (rule q also k) =
+    one_first (IsRuleFault p) f g h (subst (λ (r : Resolved). IsFirst (IsRuleFault r) g) (one_typed tree n q p also typed) k)
 
-module _ (source : List ℕ) (workspace processes : ℕ) (image : ImageState) (c : CompiledFrom source workspace processes image) where
-  its_form : (tree : Tree) (n : ℕ) → IsParsed source tree n → IsStraight tree c.form
-  its_form tree n h =
-      let l : ℕ = length c.straight.tokens in
-      let k : IsParsed source c.straight.tree l = record { read = c.straight.tokens; end = c.straight.end; spelled = c.straight.spelled; parsed = c.straight.parsed; count = refl } in
-      subst (λ (t : Tree). IsStraight t c.form) (one_tree source c.straight.tree tree l n k h).0 c.straight.straight
+-- of one of two trees of a source
+as_other : (source : List ℕ) (tree other : Tree) (n m : ℕ) (P : Tree → ℕ → Type 0) → IsParsed source tree n → IsParsed source other m → P tree n → P other m
+as_other source tree other n m P h k x =
+    let same = one_tree source tree other n m h k in
+    subst (λ (t : Tree). P t m) same.0 (subst (λ (c : ℕ). P tree c) same.1 x)
 
-  -- has no fault
-  pub compiled_no_fault : (fault : Fault) → IsSourceFault source fault → ⊥
-  compiled_no_fault fault (of_text f) = no_text_fault source c.accepted.faultless.tree c.accepted.faultless.tokens fault c.accepted.faultless.parsed f
-  compiled_no_fault fault (of_tree tree n parsed f) =
-      let a = c.accepted.faultless in
-      let same = one_tree source tree a.tree n a.tokens parsed a.parsed in
-      let there = subst (λ (t : Tree). IsTreeFault t a.tokens fault) same.0 (subst (λ (m : ℕ). IsTreeFault tree m fault) same.1 f) in
-      no_tree_fault a.tree c.form (its_form a.tree a.tokens a.parsed) a.tokens c.program fault a.faultless.typed a.faultless.no_rule_fault there
+-- A source has one first fault,
+pub one_source_fault : (source : List ℕ) (f g : Fault) → IsSourceFault source f → IsSourceFault source g → f ≡ g
+one_source_fault source f g (of_text h) (of_text k) = one_text_fault source f g h k
+one_source_fault source f g (of_text h) (of_tree tree n parsed k) = absurd (no_text_fault source tree n f parsed h)
+one_source_fault source f g (of_tree tree n parsed h) (of_text k) = absurd (no_text_fault source tree n g parsed k)
+one_source_fault source f g (of_tree tree n parsed h) (of_tree other m also k) =
+    one_tree_fault tree n f g h (as_other source other tree m n (λ (t : Tree) (c : ℕ). IsTreeFault t c g) also parsed k)
 
-  -- and is not too large
-  pub compiled_not_large : IsTooLarge source → ⊥
-  compiled_not_large large =
-      let a = c.accepted.faultless in
-      let b = large.faultless in
-      let same = one_tree source b.tree a.tree b.tokens a.tokens b.parsed a.parsed in
-      let typed = subst (λ (t : Tree). IsTyped t a.tokens large.program) same.0 (subst (λ (m : ℕ). IsTyped b.tree m large.program) same.1 b.faultless.typed) in
-      let one = one_typed a.tree c.form (its_form a.tree a.tokens a.parsed) a.tokens large.program c.program typed a.faultless.typed in
-      absurd (omega (arith, ap (λ (p : Resolved). p.size) one, large.large, c.accepted.small))
+-- or none, and one program.
+pub faultless_no_fault : (source : List ℕ) (p : Resolved) (fault : Fault) → IsFaultless source p → IsSourceFault source fault → ⊥
+faultless_no_fault source p fault h (of_text f) = no_text_fault source h.tree h.tokens fault h.parsed f
+faultless_no_fault source p fault h (of_tree tree n parsed f) =
+    no_tree_fault h.tree h.tokens p fault h.faultless (as_other source tree h.tree n h.tokens (λ (t : Tree) (c : ℕ). IsTreeFault t c fault) parsed h.parsed f)
+
+pub one_program : (source : List ℕ) (p q : Resolved) → IsFaultless source p → IsFaultless source q → p ≡ q
+one_program source p q h k =
+    one_typed k.tree k.tokens p q (as_other source h.tree k.tree h.tokens k.tokens (λ (t : Tree) (c : ℕ). IsTyped t c p) h.parsed k.parsed h.faultless.typed) k.faultless.typed
+
+-- An accepted source is not too large.
+pub accepted_not_large : (source : List ℕ) (p : Resolved) → IsAccepted source p → IsTooLarge source → ⊥
+accepted_not_large source p a l =
+    let one = one_program source l.program p l.faultless a.faultless in
+    absurd (omega (arith, ap (λ (r : Resolved). r.size) one, l.large, a.small))

@@ -1,5 +1,4 @@
 pub mod Accepted
 pub mod Code
 pub mod Laws
-pub mod Names
 pub mod Tracks

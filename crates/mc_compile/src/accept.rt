@@ -3,9 +3,10 @@
 ghost use Rattle.std.specs.Prelude.{◌≡◌, ◌⊎◌, ◌≤◌, length, IfOk, IfErr, MatchResult};
 ghost use Rattle.mc_tree.specs.declared.fault.Fault.{Fault};
 ghost use Rattle.mc_prog.specs.Namings.{AreNamingsOf};
+ghost use Rattle.mc_prog.specs.Resolved.{Resolved};
 ghost use Rattle.mc_resolve.specs.Refusals.{HasNoScopeFault};
 ghost use Rattle.mc_rules.specs.RuleFaults.{HasNoRuleFault};
-ghost use Rattle.mc_compile.specs.Accepted.{IsAccepted, IsAcceptedTree, IsTextFault, IsRefused, IsRefusedProgram, IsRefusedTree};
+ghost use Rattle.mc_compile.specs.Accepted.{IsAccepted, IsAcceptedTree, IsSourceFault, IsTooLarge, IsRefused, IsRefusedProgram, IsRefusedTree};
 
 use crate::front::parse_source;
 use crate::refusal::Refusal;
@@ -32,8 +33,10 @@ pub fn accept(alloc: Global, source: &[u8]) -> Result<Program, Refusal>
     ensures ok { IfOk result (λ program. IsAccepted source.now program) }
     ensures refused { IfErr result (λ refusal. IsRefused source.now refusal) }
 
-    // and so a fault of the text is answered
-    ensures refuses { (fault : Fault) → IsTextFault source.now fault → MatchResult result (λ program. ⊥) (λ refusal. (refusal ≡ Refusal.Memory) ⊎ (refusal ≡ Refusal.Source fault.code fault.place)) }
+    // a source is one of three, and so that is answered, unless memory is wanting
+    ensures accepts { (program : Resolved) → IsAccepted source.now program → MatchResult result (λ p. p ≡ program) (λ refusal. refusal ≡ Refusal.Memory) }
+    ensures refuses { (fault : Fault) → IsSourceFault source.now fault → MatchResult result (λ program. ⊥) (λ refusal. (refusal ≡ Refusal.Memory) ⊎ (refusal ≡ Refusal.Source fault.code fault.place)) }
+    ensures is_too_large { IsTooLarge source.now → MatchResult result (λ program. ⊥) (λ refusal. (refusal ≡ Refusal.Memory) ⊎ (refusal ≡ Refusal.TooLarge)) }
 {
     accept_source(alloc, source)
 }

@@ -3,16 +3,17 @@ use Rattle.std.proofs.Common.{◌≡◌, ◌≤◌, ℕ, List, [], ◌∷◌, �
 use Rattle.std.proofs.lemmas.List.{append-nil}
 use Rattle.mc_shelf.specs.declared.ask.Ask.{Ask}
 use Rattle.mc_shelf.specs.declared.ask.Ask.TheVariants.{Load, Save}
-use Rattle.mc_shelf.specs.Outside.{Files, content, asks}
+use Rattle.mc_shelf.specs.Outside.{Files, content, asks, View}
 use Rattle.mc_words.specs.Settings.{Numbers, AnswersSettings, AnswersSettings-unique}
 use Rattle.mc_image.specs.Image.{ImageState}
 use Rattle.mc_image.specs.Format.{IsImage}
 use Rattle.mc_image.specs.Laws.{IsImage-unique, IsImage-no_fault}
-use Rattle.mc_compile.specs.Laws.{compiled_no_fault, compiled_not_large}
+use Rattle.mc_compile.specs.Laws.{faultless_no_fault, accepted_not_large}
 use Rattle.mc_compile.specs.Tracks.{CompiledFrom}
 use Rattle.mc_driver.specs.declared.files.FileKind.{FileKind}
-use Rattle.mc_driver.specs.Outside.{View, BeginsWith, AsksPart, asks_all}
-use Rattle.mc_driver.specs.Answer.{most, AfterLoad, long_file, loaded, AfterImage, no_image, an_image, AfterReadingSettings, no_settings, some_settings, AfterCompiling, no_image_for_fault, no_image_for_size, no_image_yet, saves}
+use Rattle.mc_driver.specs.Outside.{BeginsWith, AsksPart, asks_all}
+use Rattle.mc_driver.specs.Stages.{most, AfterLoad, long_file, loaded, AfterImage, no_image, an_image, AfterReadingSettings, no_settings, some_settings}
+use Rattle.mc_driver.specs.CompileAnswer.{AfterCompiling, no_image_for_fault, no_image_for_size, no_image_yet, saves}
 
 -- nothing more is asked
 pub asks_none : (asked : Option (List Ask)) → asked ≡ asks_all asked []
@@ -87,16 +88,17 @@ asked_more v w wanted more Belong a = record {
 -- Steps of an answer, read from its front
 
 -- each answer behind a load has asked for it
-pub load_first : (kind : FileKind) (name : List ℕ) (Next : List ℕ → List Ask → ℕ → List ℕ → Type 0) (files : Files) (asked : List Ask) (status : ℕ) (text : List ℕ) → AfterLoad kind name Next files asked status text → BeginsWith asked (Load name ∷ [])
-load_first kind name Next files asked status text (long_file e long is) = record { rest = []; parts = e }
-load_first kind name Next files asked status text (loaded rest e short next) = record { rest = rest; parts = e }
+pub load_first : (kind : FileKind) (name : List ℕ) (Next : List ℕ → List Ask → ℕ → List ℕ → Type 0) (known : Option Files) (asked : List Ask) (status : ℕ) (text : List ℕ) → AfterLoad kind name Next known asked status text → BeginsWith asked (Load name ∷ [])
+load_first kind name Next known asked status text (long_file bytes reads e long is) = record { rest = []; parts = e }
+load_first kind name Next known asked status text (loaded bytes rest reads e short next) = record { rest = rest; parts = e }
 
 -- a file that is not too long is loaded
-pub load_back : (kind : FileKind) (name bytes : List ℕ) (Next : List ℕ → List Ask → ℕ → List ℕ → Type 0) (files : Files) (asked : List Ask) (status : ℕ) (text : List ℕ) → length bytes ≤ most kind → bytes ≡ content files name → AfterLoad kind name Next files asked status text → (rest : List Ask) × (asked ≡ Load name ∷ rest) × Next bytes rest status text
-load_back kind name bytes Next files asked status text fits is (long_file e long line) =
-    let short : length (content files name) ≤ most kind = subst (λ (b : List ℕ). length b ≤ most kind) is fits in absurd (omega (arith, short, long))
-load_back kind name bytes Next files asked status text fits is (loaded rest e short next) =
-    (rest, e, subst (λ (b : List ℕ). Next b rest status text) (sym is) next)
+pub load_back : (kind : FileKind) (name bytes : List ℕ) (Next : List ℕ → List Ask → ℕ → List ℕ → Type 0) (files : Files) (asked : List Ask) (status : ℕ) (text : List ℕ) → length bytes ≤ most kind → bytes ≡ content files name → AfterLoad kind name Next (Some files) asked status text → (rest : List Ask) × (asked ≡ Load name ∷ rest) × Next bytes rest status text
+load_back kind name bytes Next files asked status text fits is (long_file other reads e long line) =
+    let same : bytes ≡ other = is ∙ sym (reads files refl) in
+    let short : length other ≤ most kind = subst (λ (b : List ℕ). length b ≤ most kind) same fits in absurd (omega (arith, short, long))
+load_back kind name bytes Next files asked status text fits is (loaded other rest reads e short next) =
+    (rest, e, subst (λ (b : List ℕ). Next b rest status text) (reads files refl ∙ sym is) next)
 
 -- an image goes on as itself
 pub image_back : (bytes : List ℕ) (image : ImageState) (Next : ImageState → List Ask → ℕ → List ℕ → Type 0) (asked : List Ask) (status : ℕ) (text : List ℕ) → IsImage bytes image → AfterImage bytes Next asked status text → Next image asked status text
@@ -114,10 +116,10 @@ settings_back bytes numbers Next asked status text is (some_settings others also
     subst (λ (n : Numbers). Next n asked status text) same next
 
 -- a source that is compiled is saved
-pub compiled_first : (source : List ℕ) (settings : Numbers) (name : List ℕ) (image : ImageState) (files after : Files) (asked : List Ask) (status : ℕ) (text : List ℕ) → CompiledFrom source settings.workspace_words settings.processes image → AfterCompiling source settings name files after asked status text → BeginsWith asked (Save name ∷ [])
-compiled_first source settings name image files after asked status text made (no_image_for_fault fault has e line) =
-    absurd (compiled_no_fault source settings.workspace_words settings.processes image made fault has)
-compiled_first source settings name image files after asked status text made (no_image_for_size large e line) =
-    absurd (compiled_not_large source settings.workspace_words settings.processes image made large)
-compiled_first source settings name image files after asked status text made (no_image_yet other e line) = absurd (other.no_form made.form made.straight)
-compiled_first source settings name image files after asked status text made (saves other also saved) = record { rest = []; parts = saved.one_ask }
+pub compiled_first : (source : List ℕ) (settings : Numbers) (name : List ℕ) (image : ImageState) (before after : Option Files) (asked : List Ask) (status : ℕ) (text : List ℕ) → CompiledFrom source settings.workspace_words settings.processes image → AfterCompiling source settings name before after asked status text → BeginsWith asked (Save name ∷ [])
+compiled_first source settings name image before after asked status text made (no_image_for_fault fault has e line) =
+    absurd (faultless_no_fault source made.program fault made.accepted.faultless has)
+compiled_first source settings name image before after asked status text made (no_image_for_size large e line) =
+    absurd (accepted_not_large source made.program made.accepted large)
+compiled_first source settings name image before after asked status text made (no_image_yet other e line) = absurd (other.no_form made.form made.straight)
+compiled_first source settings name image before after asked status text made (saves other also saved) = record { rest = []; parts = saved.one_ask }

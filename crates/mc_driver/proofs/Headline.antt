@@ -15,7 +15,7 @@ use Rattle.pdp_machine.specs.declared.stop.Stop.{Stop}
 use Rattle.pdp_machine.specs.declared.stop.Stop.TheVariants.{Halt, BusFault, Reserved, Silent, Limit}
 use Rattle.pdp_machine.specs.Timed.{Timed, Advanced}
 use Rattle.pdp_machine.specs.Run.{machine_run}
-use Rattle.pdp_machine.specs.Made.{outcome_of, state, run_made}
+use Rattle.pdp_machine.specs.Made.{IsMade, outcome_of, state}
 use Rattle.pdp_machine.specs.Silence.{run_rests}
 use Rattle.mc_report.specs.declared.ending.Ending.{Ending}
 use Rattle.mc_report.specs.declared.ending.Ending.TheVariants.{End, Stuck, Trap, Limit as LimitEnding, Halt as HaltEnding, BusFault as BusFaultEnding, Reserved as ReservedEnding, Silent as SilentEnding}
@@ -73,17 +73,6 @@ plain_status HaltEnding = (λ x. omega arith, λ x. omega arith, λ x. omega ari
 plain_status (BusFaultEnding a) = (λ x. omega arith, λ x. omega arith, λ x. omega arith)
 plain_status (ReservedEnding w) = (λ x. omega arith, λ x. omega arith, λ x. omega arith)
 plain_status SilentEnding = (λ x. omega arith, λ x. omega arith, λ x. omega arith)
-
--- a compiled program never ends as a foreign image may
-pub own_status : (e : Ending) → IsProgramEnding e → status_of e ≢ 8
-own_status End h = λ x. omega arith
-own_status Stuck h = λ x. omega arith
-own_status (Trap n) h = elim (leb_tells n 7) [ inl k ↦ rw k.0 (λ x. omega arith) | inr k ↦ rw k.0 (λ x. omega arith) ]
-own_status LimitEnding h = λ x. omega arith
-own_status HaltEnding h = absurd h
-own_status (BusFaultEnding a) h = absurd h
-own_status (ReservedEnding w) h = absurd h
-own_status SilentEnding h = absurd h
 
 module _ (program : Program) (bounds : Bounds) (image : ImageState) (script : ScriptState) where
   abbrev last : Advanced
@@ -186,9 +175,8 @@ module _ (program : Program) (bounds : Bounds) (image : ImageState) (script : Sc
           traps = λ k t far. trapped_halts k m.stop refl on t far;
         }
 
-  pub run_of_program : Compiled program bounds image → IsSome (machine_run image script).machine.stop → 40 ≤ bounds.workspace → IsRunOfProgram program bounds image script
-  run_of_program compiled on room =
-      let moves = run_made image script in
+  pub run_of_program : IsMade image script → Compiled program bounds image → IsSome (machine_run image script).machine.stop → 40 ≤ bounds.workspace → IsRunOfProgram program bounds image script
+  run_of_program moves compiled on room =
       let t = compiled moves.moments moves.possible in
       let w = whole moves.moments t in
       let c : Config = config_after program (opening_config program) t.run in

@@ -5,3 +5,5 @@ pub mod Asking
 pub mod Endings
 pub mod Saving
 pub mod Refused
+pub mod Known
+pub mod Statuses

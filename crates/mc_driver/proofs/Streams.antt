@@ -1,13 +1,13 @@
 -- Pieces that are printed one behind the other.
-use Rattle.std.proofs.Common.{◌≡◌, ◌≤◌, ◌%◌, ℕ, ◌+◌, List, [], ◌∷◌, ◌++◌, length, Option, Some, None, Result, Ok, Err, IfErr, IsErrAnd, take, drop, get_or, zero, suc, ◌<◌, Bool, refl, sym, ap, ◌∙◌, subst, arith, append_assoc, length-append}
-use Rattle.std.proofs.lemmas.List.{append-nil}
-use Rattle.mc_shelf.specs.Outside.{Rose, appended, IsPart, HasRoom}
+use Rattle.std.proofs.Common.{◌≡◌, ◌≤◌, ◌%◌, ◌/◌, ◌*◌, ℕ, ◌+◌, List, [], ◌∷◌, ◌++◌, length, Option, Some, None, Result, Ok, Err, IfErr, IsErrAnd, take, drop, get_or, zero, suc, ◌<◌, Bool, refl, sym, ap, ◌∙◌, subst, arith, append_assoc, length-append}
+use Rattle.std.proofs.lemmas.List.{append-nil, take-append-drop, length-take-le}
+use Rattle.mc_shelf.specs.Outside.{Rose, appended, IsPart, HasRoom, View}
 use Rattle.mc_shelf.specs.Laws.{appended-append, IsPart-front, IsPart-behind}
 use Rattle.mc_shelf.specs.declared.shelf.PutFault.{PutFault}
 use Rattle.std.proofs.lemmas.Grind.{take_at_read}
 use Rattle.pdp_dev.specs.declared.entry.Entry.{Entry}
 use Rattle.mc_report.specs.Report.{line}
-use Rattle.mc_driver.specs.Outside.{View, IsInPieces, Streams, Prints, Breaks, lines_of}
+use Rattle.mc_driver.specs.Outside.{IsInPieces, IsPieces, Streams, Prints, Breaks, lines_of}
 
 pub appended-none : (printed : Option (List ℕ)) → printed ≡ appended printed []
 appended-none None = refl
@@ -44,6 +44,22 @@ pieces_behind {printed} a b all whole p = record {
 -- nothing was printed
 pub pieces_none : (printed now : Option (List ℕ)) (bytes : List ℕ) → now ≡ printed → IsInPieces printed bytes now
 pieces_none printed now bytes e = record { front = []; rest = bytes; parts = refl; appends = e ∙ appended-none printed; whole = refl }
+
+-- each first part is whole pieces and a first part of the next one
+pub in_pieces : (printed : Option (List ℕ)) (bytes : List ℕ) (now : Option (List ℕ)) → IsPart printed bytes now → IsPieces printed bytes now
+in_pieces printed bytes now p =
+    let n : ℕ = length p.front / 4096 * 4096 in
+    let both : take n p.front ++ drop n p.front ≡ p.front = take-append-drop n p.front in
+    let taken : length (take n p.front) ≡ n = length-take-le n p.front (omega arith) in
+    record {
+      front = take n p.front;
+      piece = drop n p.front;
+      rest = p.rest;
+      parts = p.parts ∙ ap (λ (l : List ℕ). l ++ p.rest) (sym both) ∙ append_assoc (take n p.front) (drop n p.front) p.rest;
+      appends = p.appends ∙ ap (λ (l : List ℕ). appended printed l) (sym both);
+      whole = omega (arith, taken);
+      within = omega (arith, taken, ap length both, length-append (take n p.front) (drop n p.front));
+    }
 
 -- nothing is behind the held bytes
 pub streams_none : (v : View) (held : List ℕ) → Streams v held [] v held

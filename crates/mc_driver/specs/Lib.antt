@@ -1,4 +1,10 @@
-pub mod Run
-pub mod Refusal
-pub mod Outside
 pub mod Answer
+pub mod CheckAnswer
+pub mod CheckLaws
+pub mod CompileAnswer
+pub mod ExecAnswer
+pub mod Outside
+pub mod Refusal
+pub mod Run
+pub mod RunAnswer
+pub mod Stages

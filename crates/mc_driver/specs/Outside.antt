@@ -7,19 +7,13 @@ use Rattle.mc_shelf.specs.declared.ask.Ask.{Ask}
 use Rattle.mc_shelf.specs.declared.ask.Ask.TheVariants.{Load, Save}
 use Rattle.mc_shelf.specs.declared.shelf.PutFault.{PutFault}
 use Rattle.mc_shelf.specs.declared.shelf.PutFault.TheVariants.{Failed, Memory}
-use Rattle.mc_shelf.specs.Outside.{Files, content, Told, Rose, placed, appended, IsPart, asks, HasRoom}
+use Rattle.mc_shelf.specs.Outside.{View, Files, content, Told, Rose, placed, appended, IsPart, asks, HasRoom}
 
-pub record View : Type 0 where
-  pub files : Option Files
-  pub printed : Option (List ℕ)
-  pub asked : Option (List Ask)
-  pub spare : Option ℕ
-  pub faults : ℕ
-  pub longs : ℕ
+-- What a load may read
 
-abbrev pub view : Option Files → Option (List ℕ) → Option (List Ask) → Option ℕ → ℕ → ℕ → View
-view files printed asked spare faults longs =
-    record { files = files; printed = printed; asked = asked; spare = spare; faults = faults; longs = longs }
+-- A file of this name may have these bytes, by what is known of the files: where nothing is known, any.
+abbrev pub Reads : Option Files → List ℕ → List ℕ → Type 0
+Reads known name bytes = Told known (λ files. bytes ≡ content files name)
 
 -- Printing in pieces
 
@@ -30,6 +24,16 @@ pub record IsInPieces (printed : Option (List ℕ)) (bytes : List ℕ) (now : Op
   pub parts : bytes ≡ front ++ rest
   pub appends : now ≡ appended printed front
   pub whole : length front % 4096 ≡ 0
+
+-- A first part of these bytes was printed: whole pieces of 4,096 bytes, and of the next piece a first part, which may be none.
+pub record IsPieces (printed : Option (List ℕ)) (bytes : List ℕ) (now : Option (List ℕ)) : Type 0 where
+  pub front : List ℕ
+  pub piece : List ℕ
+  pub rest : List ℕ
+  pub parts : bytes ≡ front ++ (piece ++ rest)
+  pub appends : now ≡ appended printed (front ++ piece)
+  pub whole : length front % 4096 ≡ 0
+  pub within : length piece ≤ 4096
 
 -- the lines of entries; events and grants have lines where they are asked for
 abbrev pub lines_of : Bool → List Entry → List ℕ
@@ -140,30 +144,49 @@ pub record AsksPart (v : View) (wanted : List Ask) (BelongToAnswer : Files → L
   pub in_order : BeginsWith wanted some
   pub none_behind : Told v.files (λ files. (all : List Ask) → BelongToAnswer files all → BeginsWith all some)
 
+-- What is known when an answer is judged
+
+-- A shelf's files are taken as unknown, or as it tells them.
+abbrev pub MayBe : View → Option Files → Type 0
+MayBe v known = (known ≡ None) ⊎ (known ≡ v.files)
+
+-- They can be taken as told but at two answers, where the count of failures can't show that the outside did not fail.
+abbrev pub IsKnown : View → ℕ → View → Option Files → Type 0
+IsKnown v result w known =
+    (known ≡ None) ⊎ ((known ≡ v.files) × (result ≡ 14 → Rose v.faults w.faults → ⊥) × (result ≡ 11 → v.faults < 2 ^ 64 - 1))
+
 -- Whole commands
 
 -- What is asked belongs to an answer with these files.
-abbrev pub AskedFor : (Files → List Ask → ℕ → List ℕ → Type 0) → Files → List Ask → Type 0
-AskedFor Answers files asked = (status : ℕ) × (text : List ℕ) × Answers files asked status text
+abbrev pub AskedFor : (Option Files → List Ask → ℕ → List ℕ → Type 0) → Files → List Ask → Type 0
+AskedFor Answers files asked = (status : ℕ) × (text : List ℕ) × Answers (Some files) asked status text
 
--- A command was cut off on its way to an answer: all that belongs to it was asked, and a first part of its text was printed.
--- For want of memory it is one of whole pieces, and room for the whole text was not told.
-pub record IsCut (v : View) (files : Files) (Answers : Files → List Ask → ℕ → List ℕ → Type 0) (result : ℕ) (w : View) : Type 0 where
+-- A command came to an answer: all that belongs to it was asked, and its text was printed.
+pub record IsAnswered (v : View) (known : Option Files) (Answers : Option Files → List Ask → ℕ → List ℕ → Type 0) (result : ℕ) (w : View) : Type 0 where
+  pub some : List Ask
+  pub text : List ℕ
+  pub answers : Answers known some result text
+  pub asked : w.asked ≡ asks_all v.asked some
+  pub printed : w.printed ≡ appended v.printed text
+
+-- A command was cut off on its way to an answer: all that belongs to it was asked, and a first part of its text was printed,
+-- in pieces. For want of memory these are whole, and room for the whole text was not told.
+pub record IsCut (v : View) (known : Option Files) (Answers : Option Files → List Ask → ℕ → List ℕ → Type 0) (result : ℕ) (w : View) : Type 0 where
   pub some : List Ask
   pub status : ℕ
   pub text : List ℕ
-  pub answers : Answers files some status text
+  pub answers : Answers known some status text
   pub asked : w.asked ≡ asks_all v.asked some
-  pub part : IsPart v.printed text w.printed
+  pub part : IsPieces v.printed text w.printed
   pub tight : result ≡ 12 → HasRoom v.spare (length text) → ⊥
   pub pieces : result ≡ 12 → IsInPieces v.printed text w.printed
 
--- What a command answers, asks and prints. Where files are told it answers a status, has asked for some and prints a text
--- as `Answers` says; 11 and 12 come where the outside fails and where memory is wanted, and then a first part of such a text
--- was printed, or nothing. A count that stands at its end tells nothing.
-pub record Ends (v : View) (wanted : List Ask) (Answers : Files → List Ask → ℕ → List ℕ → Type 0) (result : ℕ) (w : View) : Type 0 where
-  pub answer : result ≢ 11 → result ≢ 12 → (result ≡ 14 → Rose v.faults w.faults → ⊥) → Told v.files (λ files. (some : List Ask) × (text : List ℕ) × Answers files some result text × (w.asked ≡ asks_all v.asked some) × (w.printed ≡ appended v.printed text))
-  pub cut : (result ≡ 11) ⊎ (result ≡ 12) → v.faults < 2 ^ 64 - 1 → Told v.files (λ files. (w.printed ≡ v.printed) ⊎ IsCut v files Answers result w)
+-- What a command answers, asks and prints: a status, some loads and a text that belong together, as `Answers` says, with the
+-- files as they are told, or else with some bytes that the loads gave. 11 and 12 come where the outside fails and where memory
+-- is wanted, and then a first part of such a text was printed, or nothing.
+pub record Ends (v : View) (wanted : List Ask) (Answers : Option Files → List Ask → ℕ → List ℕ → Type 0) (result : ℕ) (w : View) : Type 0 where
+  pub answer : (known : Option Files) → IsKnown v result w known → result ≢ 11 → result ≢ 12 → IsAnswered v known Answers result w
+  pub cut : (known : Option Files) → IsKnown v result w known → (result ≡ 11) ⊎ (result ≡ 12) → (w.printed ≡ v.printed) ⊎ IsCut v known Answers result w
   pub failed : result ≡ 11 → Rose v.faults w.faults
   pub grew : v.faults < w.faults → result ≡ 11
   pub long : result ≡ 14 → Rose v.longs w.longs
@@ -186,30 +209,42 @@ abbrev pub KeepsOthers : Option (List ℕ) → Option Files → Option Files →
 KeepsOthers None before after = after ≡ before
 KeepsOthers (Some name) before after = (after ≡ before) ⊎ ((held : Option (List ℕ)) × (after ≡ placed before name held))
 
--- What is asked belongs to an answer with these files before it.
-abbrev pub AskedForSaving : (Files → Files → List Ask → ℕ → List ℕ → Type 0) → Files → List Ask → Type 0
-AskedForSaving Answers files asked = (after : Files) × (status : ℕ) × (text : List ℕ) × Answers files after asked status text
+-- Answers of such a command speak of what is known of the files for loads, and of the files as told before and after it.
+abbrev pub SavingAnswers : Type 1
+SavingAnswers = Option Files → Option Files → Option Files → List Ask → ℕ → List ℕ → Type 0
 
--- A command was cut off on its way to an answer: all that belongs to it was asked, a first part of its text was printed, and
--- the files are those of the answer. Or the save failed by which it would have been done: then nothing was printed, and the
--- others keep their files. For want of memory the part is one of whole pieces, and room for the whole text was not told.
-pub record IsCutOff (v : View) (before : Files) (target : Option (List ℕ)) (Answers : Files → Files → List Ask → ℕ → List ℕ → Type 0) (result : ℕ) (w : View) : Type 0 where
-  pub after : Files
+-- What is asked belongs to an answer with these files before it.
+abbrev pub AskedForSaving : SavingAnswers → Files → List Ask → Type 0
+AskedForSaving Answers files asked = (after : Option Files) × (status : ℕ) × (text : List ℕ) × Answers (Some files) (Some files) after asked status text
+
+-- A command came to an answer: all that belongs to it was asked, its text was printed, and the files are those behind it.
+pub record IsAnsweredSaving (v : View) (known : Option Files) (Answers : SavingAnswers) (result : ℕ) (w : View) : Type 0 where
+  pub some : List Ask
+  pub text : List ℕ
+  pub answers : Answers known v.files w.files some result text
+  pub asked : w.asked ≡ asks_all v.asked some
+  pub printed : w.printed ≡ appended v.printed text
+
+-- A command was cut off on its way to an answer: all that belongs to it was asked, a first part of its text was printed in
+-- pieces, and the files are those behind the answer. Or the save failed by which it would have been done: then nothing was
+-- printed, and the others keep their files. For want of memory the pieces are whole, and room for the whole text was not told.
+pub record IsCutOff (v : View) (known : Option Files) (target : Option (List ℕ)) (Answers : SavingAnswers) (result : ℕ) (w : View) : Type 0 where
+  pub after : Option Files
   pub some : List Ask
   pub status : ℕ
   pub text : List ℕ
-  pub answers : Answers before after some status text
+  pub answers : Answers known v.files after some status text
   pub asked : w.asked ≡ asks_all v.asked some
-  pub part : IsPart v.printed text w.printed
-  pub files : (w.files ≡ Some after) ⊎ ((status ≡ 0) × (w.printed ≡ v.printed) × KeepsOthers target v.files w.files)
+  pub part : IsPieces v.printed text w.printed
+  pub files : (w.files ≡ after) ⊎ ((status ≡ 0) × (w.printed ≡ v.printed) × KeepsOthers target v.files w.files)
   pub tight : result ≡ 12 → HasRoom v.spare (length text) → ⊥
   pub pieces : result ≡ 12 → IsInPieces v.printed text w.printed
 
--- What a command answers, asks, prints and saves, as in `Ends`. `Answers` relates the files before and after. No file but
--- the target's changes; and where the command is cut off before it comes to an answer, that one does not change either.
-pub record EndsSaving (v : View) (wanted : List Ask) (target : Option (List ℕ)) (Answers : Files → Files → List Ask → ℕ → List ℕ → Type 0) (result : ℕ) (w : View) : Type 0 where
-  pub answer : result ≢ 11 → result ≢ 12 → (result ≡ 14 → Rose v.faults w.faults → ⊥) → Told v.files (λ files. (after : Files) × (some : List Ask) × (text : List ℕ) × Answers files after some result text × (w.files ≡ Some after) × (w.asked ≡ asks_all v.asked some) × (w.printed ≡ appended v.printed text))
-  pub cut : (result ≡ 11) ⊎ (result ≡ 12) → v.faults < 2 ^ 64 - 1 → Told v.files (λ files. ((w.printed ≡ v.printed) × (w.files ≡ v.files)) ⊎ IsCutOff v files target Answers result w)
+-- What a command answers, asks, prints and saves, as in `Ends`. No file but the target's changes; and where the command is cut
+-- off before it comes to an answer, that one does not change either.
+pub record EndsSaving (v : View) (wanted : List Ask) (target : Option (List ℕ)) (Answers : SavingAnswers) (result : ℕ) (w : View) : Type 0 where
+  pub answer : (known : Option Files) → IsKnown v result w known → result ≢ 11 → result ≢ 12 → IsAnsweredSaving v known Answers result w
+  pub cut : (known : Option Files) → IsKnown v result w known → (result ≡ 11) ⊎ (result ≡ 12) → ((w.printed ≡ v.printed) × (w.files ≡ v.files)) ⊎ IsCutOff v known target Answers result w
   pub failed : result ≡ 11 → Rose v.faults w.faults
   pub grew : v.faults < w.faults → result ≡ 11
   pub long : result ≡ 14 → Rose v.longs w.longs

@@ -8,7 +8,7 @@ use Rattle.pdp_machine.specs.declared.stop.Stop.{Stop}
 use Rattle.pdp_machine.specs.declared.stop.Stop.TheVariants.{Halt, BusFault, Reserved, Silent, Limit}
 use Rattle.pdp_machine.specs.Timed.{Timed, Advanced, is_to_come}
 use Rattle.pdp_machine.specs.Run.{machine_run}
-use Rattle.pdp_machine.specs.Made.{state}
+use Rattle.pdp_machine.specs.Made.{IsMade, state}
 use Rattle.mc_report.specs.declared.ending.Ending.{Ending}
 use Rattle.mc_report.specs.declared.ending.Ending.TheVariants.{End, Stuck, Trap, Limit as LimitEnding, Halt as HaltEnding, BusFault as BusFaultEnding, Reserved as ReservedEnding, Silent as SilentEnding}
 use Rattle.mc_report.specs.Report.{report_of}
@@ -76,6 +76,8 @@ text_of origin journal run = report_of run.entries run.machine.instructions (end
 
 -- The text is the report of the machine's run of an image, and the status says how it ended.
 pub record IsReport (origin : Origin) (journal : Bool) (image : ImageState) (script : ScriptState) (status : ℕ) (text : List ℕ) : Type 0 where
+  -- the run is a list of moments, each possible where it comes
+  pub made : IsMade image script
   -- the machine stops: each advance without a stop takes time
   pub stops : IsSome (machine_run image script).machine.stop
   pub text_is : text ≡ text_of origin journal (machine_run image script)

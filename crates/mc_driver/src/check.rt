@@ -4,8 +4,9 @@ ghost use Rattle.std.specs.Prelude.{◌≤◌, ◌∷◌, [], length, IfOk, IfEr
 ghost use Rattle.mc_prog.specs.Resolved.{Resolved};
 ghost use Rattle.mc_compile.specs.Accepted.{IsAccepted, IsRefused};
 ghost use Rattle.mc_shelf.specs.declared.ask.Ask.{Ask};
-ghost use Rattle.mc_driver.specs.Outside.{view, Ends};
-ghost use Rattle.mc_driver.specs.Answer.{AsksNothing, AfterChecking, IsCheckAnswer};
+ghost use Rattle.mc_driver.specs.Outside.{Ends};
+ghost use Rattle.mc_driver.specs.Stages.{AsksNothing};
+ghost use Rattle.mc_driver.specs.CheckAnswer.{AfterChecking, IsCheckAnswer};
 
 use crate::files::{FileKind, load, refuse, say};
 use crate::status::DONE;
@@ -29,7 +30,7 @@ fn accepts(alloc: Global, source: &[u8]) -> Result<(), Refusal>
 // Says whether a source is accepted.
 fn check_source<S: Shelf>(alloc: Global, source: &[u8], shelf: &mut S) -> u8
     requires { length source.now ≤ 262144 }
-    ensures { Ends (view (S.files shelf.old) (S.printed shelf.old) (S.asked shelf.old) (S.spare shelf.old) (S.faults shelf.old) (S.longs shelf.old)) [] (λ files. AsksNothing (AfterChecking source.now)) result (view (S.files shelf.new) (S.printed shelf.new) (S.asked shelf.new) (S.spare shelf.new) (S.faults shelf.new) (S.longs shelf.new)) }
+    ensures { Ends (S.seen shelf.old) [] (λ files. AsksNothing (AfterChecking source.now)) result (S.seen shelf.new) }
 {
     match accepts(alloc, source) {
         Ok(()) => say(shelf, b"ok\n", DONE),
@@ -39,7 +40,7 @@ fn check_source<S: Shelf>(alloc: Global, source: &[u8], shelf: &mut S) -> u8
 
 /// The command `check`.
 pub fn check<S: Shelf>(alloc: Global, source: &str, shelf: &mut S) -> u8
-    ensures { Ends (view (S.files shelf.old) (S.printed shelf.old) (S.asked shelf.old) (S.spare shelf.old) (S.faults shelf.old) (S.longs shelf.old)) (Ask.Load source.now ∷ []) (IsCheckAnswer source.now) result (view (S.files shelf.new) (S.printed shelf.new) (S.asked shelf.new) (S.spare shelf.new) (S.faults shelf.new) (S.longs shelf.new)) }
+    ensures { Ends (S.seen shelf.old) (Ask.Load source.now ∷ []) (IsCheckAnswer source.now) result (S.seen shelf.new) }
 {
     match load(alloc, source, FileKind::Source, shelf) {
         Ok(bytes) => check_source(alloc, bytes.as_slice(), shelf),

@@ -2,13 +2,15 @@
 
 ghost use Rattle.std.specs.Prelude.{◌≡◌, ◌≢◌, Some, None, [], map, codes, string_bytes};
 ghost use Rattle.mc_words.specs.Commands.{order_of, command_of};
-ghost use Rattle.mc_driver.specs.Outside.{view, EndsSaving};
+ghost use Rattle.mc_driver.specs.Outside.{EndsSaving};
 ghost use Rattle.mc_driver.specs.Refusal.{IsLine};
-ghost use Rattle.mc_driver.specs.Answer.{AsksNothing, SavesNothing, AnswersTo, IsAnswer, IsRun, asks_of, target_of};
+ghost use Rattle.mc_driver.specs.Stages.{AsksNothing, SavesNothing};
+ghost use Rattle.mc_driver.specs.Answer.{AnswersTo, IsAnswer, HasStatus, asks_of, target_of};
 
 use crate::check::check;
 use crate::compile::compile;
 use crate::files::say;
+use crate::generate::generate;
 use crate::run::{exec, run};
 use crate::status::{NO_MEMORY, NOT_YET, WORDS};
 use mc_shelf::shelf::Shelf;
@@ -17,16 +19,14 @@ use std::alloc::Global;
 
 // A command that is not built yet.
 fn not_yet<S: Shelf>(shelf: &mut S) -> u8
-    ensures ends { EndsSaving (view (S.files shelf.old) (S.printed shelf.old) (S.asked shelf.old) (S.spare shelf.old) (S.faults shelf.old) (S.longs shelf.old)) [] None (SavesNothing (λ files. AsksNothing (IsLine 15 (codes "not yet words\n")))) result (view (S.files shelf.new) (S.printed shelf.new) (S.asked shelf.new) (S.spare shelf.new) (S.faults shelf.new) (S.longs shelf.new)) }
-    ensures own { result ≢ 8 }
+    ensures { EndsSaving (S.seen shelf.old) [] None (SavesNothing (λ files. AsksNothing (IsLine 15 (codes "not yet words\n")))) result (S.seen shelf.new) }
 {
     say(shelf, b"not yet words\n", NOT_YET)
 }
 
 // Does what a command asks.
 fn obey<S: Shelf>(alloc: Global, command: Command, shelf: &mut S) -> u8
-    ensures ends { EndsSaving (view (S.files shelf.old) (S.printed shelf.old) (S.asked shelf.old) (S.spare shelf.old) (S.faults shelf.old) (S.longs shelf.old)) (asks_of (Some (order_of command.entry))) (target_of (Some (order_of command.entry))) (AnswersTo (Some (order_of command.entry))) result (view (S.files shelf.new) (S.printed shelf.new) (S.asked shelf.new) (S.spare shelf.new) (S.faults shelf.new) (S.longs shelf.new)) }
-    ensures own { IsRun (Some (order_of command.entry)) → result ≢ 8 }
+    ensures { EndsSaving (S.seen shelf.old) (asks_of (Some (order_of command.entry))) (target_of (Some (order_of command.entry))) (AnswersTo (Some (order_of command.entry))) result (S.seen shelf.new) }
 {
     match command {
         Command::Run {
@@ -46,25 +46,32 @@ fn obey<S: Shelf>(alloc: Global, command: Command, shelf: &mut S) -> u8
             settings,
         } => compile(alloc, source, image, settings, shelf),
         Command::Check { source } => check(alloc, source, shelf),
-        Command::Generate { .. } => not_yet(shelf),
+        Command::Generate { n } => generate(alloc, n, shelf),
         Command::OwnRun { .. } => not_yet(shelf),
     }
 }
 
 /// Does what the words of a command ask of a shelf. `run SOURCE SCRIPT` compiles the source, runs its image under the
 /// script, and prints the report; `compile SOURCE IMAGE` saves the image; `exec IMAGE SCRIPT` runs an image; `check SOURCE`
-/// says whether a source is accepted. Answers a status: 0 where every process ended, the image was saved or the source is
-/// accepted, 1 where the words are no command, 2 where the source has a fault, 3 where the script is refused, 4 where the
-/// image is refused, 5 after a trap, 6 where some process has not ended and nothing can happen any more, 7 where the limit
-/// was reached, 8 where a foreign image stopped, 9 after a workspace check, 10 where the settings are refused, 11 where the
-/// outside failed, 12 for want of memory, 13 where the source is too large, 14 where a file is too long, and 15 where the
-/// command or the form of the source is not built yet.
+/// says whether a source is accepted; `generate N` prints the source of a ring of N processes. Answers a status: 0 where
+/// every process ended, the image was saved, or the source is accepted or printed, 1 where the words are no command, 2 where
+/// the source has a fault, 3 where the script is refused, 4 where the image is refused, 5 after a trap, 6 where some process
+/// has not ended and nothing can happen any more, 7 where the limit was reached, 8 where a foreign image stopped, 9 after a
+/// workspace check, 10 where the settings are refused, 11 where the outside failed, 12 for want of memory, 13 where the
+/// source is too large, 14 where a file is too long, and 15 where the command or the form of the source is not built yet.
 pub fn modula<S: Shelf>(alloc: Global, words: &[String], shelf: &mut S) -> u8
     // What is answered, asked, printed and saved, and why.
-    ensures ends { EndsSaving (view (S.files shelf.old) (S.printed shelf.old) (S.asked shelf.old) (S.spare shelf.old) (S.faults shelf.old) (S.longs shelf.old)) (asks_of (command_of (map string_bytes words.now))) (target_of (command_of (map string_bytes words.now))) (IsAnswer (map string_bytes words.now)) result (view (S.files shelf.new) (S.printed shelf.new) (S.asked shelf.new) (S.spare shelf.new) (S.faults shelf.new) (S.longs shelf.new)) }
+    ensures ends { EndsSaving (S.seen shelf.old) (asks_of (command_of (map string_bytes words.now))) (target_of (command_of (map string_bytes words.now))) (IsAnswer (map string_bytes words.now)) result (S.seen shelf.new) }
 
-    // A compiled program never ends as a foreign image may.
-    ensures own { IsRun (command_of (map string_bytes words.now)) → result ≢ 8 }
+    // The statuses that these words can have, whatever the shelf tells of itself.
+    ensures status { HasStatus (map string_bytes words.now) result }
+{
+    answer(alloc, words, shelf)
+}
+
+// Answers what words say.
+fn answer<S: Shelf>(alloc: Global, words: &[String], shelf: &mut S) -> u8
+    ensures { EndsSaving (S.seen shelf.old) (asks_of (command_of (map string_bytes words.now))) (target_of (command_of (map string_bytes words.now))) (IsAnswer (map string_bytes words.now)) result (S.seen shelf.new) }
 {
     match read_words(alloc, words) {
         Ok(command) => obey(alloc, command, shelf),

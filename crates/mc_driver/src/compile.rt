@@ -7,8 +7,9 @@ ghost use Rattle.mc_image.specs.Format.{IsImage, image_bytes};
 ghost use Rattle.mc_compile.specs.Accepted.{IsNotCompiled};
 ghost use Rattle.mc_compile.specs.Tracks.{CompiledFrom};
 ghost use Rattle.mc_words.specs.Settings.{numbers_of};
-ghost use Rattle.mc_driver.specs.Outside.{view, EndsSaving};
-ghost use Rattle.mc_driver.specs.Answer.{SavesWhenDone, IsSaved, AfterCompiling, IsCompiledUnder, IsCompileAnswer, settings_load};
+ghost use Rattle.mc_driver.specs.Outside.{EndsSaving};
+ghost use Rattle.mc_driver.specs.Stages.{SavesWhenDone, IsSaved, settings_load};
+ghost use Rattle.mc_driver.specs.CompileAnswer.{AfterCompiling, IsCompiledUnder, IsCompileAnswer};
 
 use crate::files::{FileKind, USUAL, load, load_settings, refuse, say};
 use crate::status::{DONE, FAILED, NO_MEMORY};
@@ -71,7 +72,7 @@ fn saved_line(count: usize) -> ArrayVec<u8, 32>
 
 // Saves the bytes of an image, and says their number.
 fn save<S: Shelf>(name: &str, bytes: &[u8], shelf: &mut S) -> u8
-    ensures { EndsSaving (view (S.files shelf.old) (S.printed shelf.old) (S.asked shelf.old) (S.spare shelf.old) (S.faults shelf.old) (S.longs shelf.old)) (Ask.Save name.now ∷ []) (Some name.now) (IsSaved name.now bytes.now) result (view (S.files shelf.new) (S.printed shelf.new) (S.asked shelf.new) (S.spare shelf.new) (S.faults shelf.new) (S.longs shelf.new)) }
+    ensures { EndsSaving (S.seen shelf.old) (Ask.Save name.now ∷ []) (Some name.now) (λ known. IsSaved name.now bytes.now) result (S.seen shelf.new) }
 {
     match shelf.save(name, bytes) {
         Ok(()) => say(shelf, saved_line(bytes.len()).as_slice(), DONE),
@@ -89,7 +90,7 @@ fn save_image<S: Shelf>(
     shelf: &mut S,
 ) -> u8
     requires { length source.now ≤ 262144 }
-    ensures { EndsSaving (view (S.files shelf.old) (S.printed shelf.old) (S.asked shelf.old) (S.spare shelf.old) (S.faults shelf.old) (S.longs shelf.old)) (Ask.Save image.now ∷ []) (Some image.now) (SavesWhenDone (AfterCompiling source.now (numbers_of settings) image.now)) result (view (S.files shelf.new) (S.printed shelf.new) (S.asked shelf.new) (S.spare shelf.new) (S.faults shelf.new) (S.longs shelf.new)) }
+    ensures { EndsSaving (S.seen shelf.old) (Ask.Save image.now ∷ []) (Some image.now) (SavesWhenDone (λ known. AfterCompiling source.now (numbers_of settings) image.now)) result (S.seen shelf.new) }
 {
     match compiled_bytes(alloc, source, settings) {
         Ok(bytes) => save(image, bytes.as_slice(), shelf),
@@ -105,7 +106,7 @@ fn compile_under<S: Shelf>(
     settings: Settings,
     shelf: &mut S,
 ) -> u8
-    ensures { EndsSaving (view (S.files shelf.old) (S.printed shelf.old) (S.asked shelf.old) (S.spare shelf.old) (S.faults shelf.old) (S.longs shelf.old)) (Ask.Load source.now ∷ Ask.Save image.now ∷ []) (Some image.now) (SavesWhenDone (IsCompiledUnder source.now image.now (numbers_of settings))) result (view (S.files shelf.new) (S.printed shelf.new) (S.asked shelf.new) (S.spare shelf.new) (S.faults shelf.new) (S.longs shelf.new)) }
+    ensures { EndsSaving (S.seen shelf.old) (Ask.Load source.now ∷ Ask.Save image.now ∷ []) (Some image.now) (SavesWhenDone (IsCompiledUnder source.now image.now (numbers_of settings))) result (S.seen shelf.new) }
 {
     match load(alloc, source, FileKind::Source, shelf) {
         Ok(bytes) => save_image(alloc, bytes.as_slice(), image, settings, shelf),
@@ -121,7 +122,7 @@ pub fn compile<S: Shelf>(
     settings: Option<&str>,
     shelf: &mut S,
 ) -> u8
-    ensures { EndsSaving (view (S.files shelf.old) (S.printed shelf.old) (S.asked shelf.old) (S.spare shelf.old) (S.faults shelf.old) (S.longs shelf.old)) (settings_load (option_map (λ s. s.now) settings.entry) ++ Ask.Load source.now ∷ Ask.Save image.now ∷ []) (Some image.now) (IsCompileAnswer source.now image.now (option_map (λ s. s.now) settings.entry)) result (view (S.files shelf.new) (S.printed shelf.new) (S.asked shelf.new) (S.spare shelf.new) (S.faults shelf.new) (S.longs shelf.new)) }
+    ensures { EndsSaving (S.seen shelf.old) (settings_load (option_map (λ s. s.now) settings.entry) ++ Ask.Load source.now ∷ Ask.Save image.now ∷ []) (Some image.now) (IsCompileAnswer source.now image.now (option_map (λ s. s.now) settings.entry)) result (S.seen shelf.new) }
 {
     match settings {
         None => compile_under(alloc, source, image, USUAL, shelf),

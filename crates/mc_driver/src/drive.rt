@@ -2,7 +2,7 @@
 
 ghost use Rattle.std.specs.Prelude.{◌≡◌, ◌+◌, ◌<◌, ℕ, [], ◌∷◌, length, IfOk, IfErr, OnOk, Some};
 ghost use Rattle.pdp_machine.specs.Run.{advances};
-ghost use Rattle.mc_driver.specs.Outside.{view, Streams, Prints, Breaks, lines_of};
+ghost use Rattle.mc_driver.specs.Outside.{Streams, Prints, Breaks, lines_of};
 ghost use Rattle.mc_driver.specs.Run.{ending_for, text_of};
 
 use crate::ending::{Origin, ending_at};
@@ -23,9 +23,9 @@ const LIVE: Word = 0o50;
 
 // Prints the held bytes, and lets them go.
 fn flush<S: Shelf>(pieces: &mut Pieces, shelf: &mut S) -> Result<(), PutFault>
-    ensures ok { OnOk result (Prints (view (S.files shelf.old) (S.printed shelf.old) (S.asked shelf.old) (S.spare shelf.old) (S.faults shelf.old) (S.longs shelf.old)) pieces.old (view (S.files shelf.new) (S.printed shelf.new) (S.asked shelf.new) (S.spare shelf.new) (S.faults shelf.new) (S.longs shelf.new))) }
+    ensures ok { OnOk result (Prints (S.seen shelf.old) pieces.old (S.seen shelf.new)) }
     ensures none { OnOk result (pieces.new ≡ []) }
-    ensures refused { IfErr result (λ fault. Breaks (view (S.files shelf.old) (S.printed shelf.old) (S.asked shelf.old) (S.spare shelf.old) (S.faults shelf.old) (S.longs shelf.old)) pieces.old [] fault (view (S.files shelf.new) (S.printed shelf.new) (S.asked shelf.new) (S.spare shelf.new) (S.faults shelf.new) (S.longs shelf.new))) }
+    ensures refused { IfErr result (λ fault. Breaks (S.seen shelf.old) pieces.old [] fault (S.seen shelf.new)) }
 {
     shelf.print(pieces.held())?;
     pieces.clear();
@@ -35,9 +35,9 @@ fn flush<S: Shelf>(pieces: &mut Pieces, shelf: &mut S) -> Result<(), PutFault>
 // Puts a byte behind the held ones, and prints them where they are a whole piece.
 fn put_byte<S: Shelf>(byte: u8, pieces: &mut Pieces, shelf: &mut S) -> Result<(), PutFault>
     requires { length pieces.old < 4096 }
-    ensures ok { OnOk result (Streams (view (S.files shelf.old) (S.printed shelf.old) (S.asked shelf.old) (S.spare shelf.old) (S.faults shelf.old) (S.longs shelf.old)) pieces.old (byte ∷ []) (view (S.files shelf.new) (S.printed shelf.new) (S.asked shelf.new) (S.spare shelf.new) (S.faults shelf.new) (S.longs shelf.new)) pieces.new) }
+    ensures ok { OnOk result (Streams (S.seen shelf.old) pieces.old (byte ∷ []) (S.seen shelf.new) pieces.new) }
     ensures fits { OnOk result (length pieces.new < 4096) }
-    ensures refused { IfErr result (λ fault. Breaks (view (S.files shelf.old) (S.printed shelf.old) (S.asked shelf.old) (S.spare shelf.old) (S.faults shelf.old) (S.longs shelf.old)) pieces.old (byte ∷ []) fault (view (S.files shelf.new) (S.printed shelf.new) (S.asked shelf.new) (S.spare shelf.new) (S.faults shelf.new) (S.longs shelf.new))) }
+    ensures refused { IfErr result (λ fault. Breaks (S.seen shelf.old) pieces.old (byte ∷ []) fault (S.seen shelf.new)) }
 {
     pieces.push(byte);
     if pieces.is_full() {
@@ -50,9 +50,9 @@ fn put_byte<S: Shelf>(byte: u8, pieces: &mut Pieces, shelf: &mut S) -> Result<()
 // Puts bytes behind the held ones, and prints each whole piece.
 fn put<S: Shelf>(bytes: &[u8], pieces: &mut Pieces, shelf: &mut S) -> Result<(), PutFault>
     requires { length pieces.old < 4096 }
-    ensures ok { OnOk result (Streams (view (S.files shelf.old) (S.printed shelf.old) (S.asked shelf.old) (S.spare shelf.old) (S.faults shelf.old) (S.longs shelf.old)) pieces.old bytes.now (view (S.files shelf.new) (S.printed shelf.new) (S.asked shelf.new) (S.spare shelf.new) (S.faults shelf.new) (S.longs shelf.new)) pieces.new) }
+    ensures ok { OnOk result (Streams (S.seen shelf.old) pieces.old bytes.now (S.seen shelf.new) pieces.new) }
     ensures fits { OnOk result (length pieces.new < 4096) }
-    ensures refused { IfErr result (λ fault. Breaks (view (S.files shelf.old) (S.printed shelf.old) (S.asked shelf.old) (S.spare shelf.old) (S.faults shelf.old) (S.longs shelf.old)) pieces.old bytes.now fault (view (S.files shelf.new) (S.printed shelf.new) (S.asked shelf.new) (S.spare shelf.new) (S.faults shelf.new) (S.longs shelf.new))) }
+    ensures refused { IfErr result (λ fault. Breaks (S.seen shelf.old) pieces.old bytes.now fault (S.seen shelf.new)) }
 {
     for byte in bytes {
         put_byte(*byte, pieces, shelf)?;
@@ -68,9 +68,9 @@ fn put_lines<S: Shelf>(
     shelf: &mut S,
 ) -> Result<(), PutFault>
     requires { length pieces.old < 4096 }
-    ensures ok { OnOk result (Streams (view (S.files shelf.old) (S.printed shelf.old) (S.asked shelf.old) (S.spare shelf.old) (S.faults shelf.old) (S.longs shelf.old)) pieces.old (lines_of journal entries.now) (view (S.files shelf.new) (S.printed shelf.new) (S.asked shelf.new) (S.spare shelf.new) (S.faults shelf.new) (S.longs shelf.new)) pieces.new) }
+    ensures ok { OnOk result (Streams (S.seen shelf.old) pieces.old (lines_of journal entries.now) (S.seen shelf.new) pieces.new) }
     ensures fits { OnOk result (length pieces.new < 4096) }
-    ensures refused { IfErr result (λ fault. Breaks (view (S.files shelf.old) (S.printed shelf.old) (S.asked shelf.old) (S.spare shelf.old) (S.faults shelf.old) (S.longs shelf.old)) pieces.old (lines_of journal entries.now) fault (view (S.files shelf.new) (S.printed shelf.new) (S.asked shelf.new) (S.spare shelf.new) (S.faults shelf.new) (S.longs shelf.new))) }
+    ensures refused { IfErr result (λ fault. Breaks (S.seen shelf.old) pieces.old (lines_of journal entries.now) fault (S.seen shelf.new)) }
 {
     for entry in entries {
         put(line_of(*entry, journal).as_slice(), pieces, shelf)?;
@@ -96,9 +96,9 @@ pub fn drive<S: Shelf>(
     ensures stop { IfOk result (λ stop. machine.new.stop ≡ Some stop) }
     ensures machine { OnOk result (machine.new ≡ (advances (machine.old.limit + 1) machine.old).machine) }
     ensures stands { (n : ℕ) × (machine.new ≡ (advances n machine.old).machine) }
-    ensures ok { OnOk result (Streams (view (S.files shelf.old) (S.printed shelf.old) (S.asked shelf.old) (S.spare shelf.old) (S.faults shelf.old) (S.longs shelf.old)) [] (lines_of journal (advances (machine.old.limit + 1) machine.old).entries) (view (S.files shelf.new) (S.printed shelf.new) (S.asked shelf.new) (S.spare shelf.new) (S.faults shelf.new) (S.longs shelf.new)) pieces.new) }
+    ensures ok { OnOk result (Streams (S.seen shelf.old) [] (lines_of journal (advances (machine.old.limit + 1) machine.old).entries) (S.seen shelf.new) pieces.new) }
     ensures fits { OnOk result (length pieces.new < 4096) }
-    ensures refused { IfErr result (λ fault. Breaks (view (S.files shelf.old) (S.printed shelf.old) (S.asked shelf.old) (S.spare shelf.old) (S.faults shelf.old) (S.longs shelf.old)) [] (lines_of journal (advances (machine.old.limit + 1) machine.old).entries) fault (view (S.files shelf.new) (S.printed shelf.new) (S.asked shelf.new) (S.spare shelf.new) (S.faults shelf.new) (S.longs shelf.new))) }
+    ensures refused { IfErr result (λ fault. Breaks (S.seen shelf.old) [] (lines_of journal (advances (machine.old.limit + 1) machine.old).entries) fault (S.seen shelf.new)) }
 {
     for _i in 0..u64::from(machine.limit()) + 1 {
         let more = machine.advance();
@@ -125,8 +125,8 @@ pub fn print_report<S: Shelf>(
 ) -> Result<Ending, PutFault>
     requires { pieces.old ≡ [] }
     ensures ending { IfOk result (λ ending. ending ≡ ending_for origin (advances (machine.old.limit + 1) machine.old).machine) }
-    ensures ok { OnOk result (Prints (view (S.files shelf.old) (S.printed shelf.old) (S.asked shelf.old) (S.spare shelf.old) (S.faults shelf.old) (S.longs shelf.old)) (text_of origin journal (advances (machine.old.limit + 1) machine.old)) (view (S.files shelf.new) (S.printed shelf.new) (S.asked shelf.new) (S.spare shelf.new) (S.faults shelf.new) (S.longs shelf.new))) }
-    ensures refused { IfErr result (λ fault. Breaks (view (S.files shelf.old) (S.printed shelf.old) (S.asked shelf.old) (S.spare shelf.old) (S.faults shelf.old) (S.longs shelf.old)) [] (text_of origin journal (advances (machine.old.limit + 1) machine.old)) fault (view (S.files shelf.new) (S.printed shelf.new) (S.asked shelf.new) (S.spare shelf.new) (S.faults shelf.new) (S.longs shelf.new))) }
+    ensures ok { OnOk result (Prints (S.seen shelf.old) (text_of origin journal (advances (machine.old.limit + 1) machine.old)) (S.seen shelf.new)) }
+    ensures refused { IfErr result (λ fault. Breaks (S.seen shelf.old) [] (text_of origin journal (advances (machine.old.limit + 1) machine.old)) fault (S.seen shelf.new)) }
 {
     let stop = drive(machine, pieces, journal, shelf)?;
     let ending = ending_at(origin, stop, machine.peek(TRAP), machine.peek(LIVE));

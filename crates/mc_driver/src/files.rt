@@ -5,9 +5,9 @@ ghost use Rattle.mc_shelf.specs.declared.ask.Ask.{Ask};
 ghost use Rattle.mc_words.specs.Settings.{AnswersSettings, numbers_of};
 ghost use Rattle.mc_image.specs.Format.{IsImage};
 ghost use Rattle.mc_script.specs.Texts.{IsText};
-ghost use Rattle.mc_driver.specs.Outside.{view, Loaded, Unloaded, Says, Ends};
+ghost use Rattle.mc_driver.specs.Outside.{Loaded, Unloaded, Says, Ends};
 ghost use Rattle.mc_driver.specs.Refusal.{IsSaid};
-ghost use Rattle.mc_driver.specs.Answer.{most, too_long_line, AsksNothing, AfterLoad, AfterImage, AfterScript, AfterReadingSettings};
+ghost use Rattle.mc_driver.specs.Stages.{most, too_long_line, AsksNothing, AfterLoad, AfterImage, AfterScript, AfterReadingSettings};
 
 use crate::refusal::{image_line, script_line, setting_line, source_line};
 use crate::status::{
@@ -69,8 +69,7 @@ impl FileKind {
 pub fn say<S: Shelf>(shelf: &mut S, line: &[u8], status: u8) -> u8
     requires failed { status ≢ 11 }
     requires memory { status ≢ 12 }
-    ensures says { Says (view (S.files shelf.old) (S.printed shelf.old) (S.asked shelf.old) (S.spare shelf.old) (S.faults shelf.old) (S.longs shelf.old)) line.now status result (view (S.files shelf.new) (S.printed shelf.new) (S.asked shelf.new) (S.spare shelf.new) (S.faults shelf.new) (S.longs shelf.new)) }
-    ensures own { status ≢ 8 → result ≢ 8 }
+    ensures { Says (S.seen shelf.old) line.now status result (S.seen shelf.new) }
 {
     match shelf.print(line) {
         Ok(()) => status,
@@ -81,8 +80,7 @@ pub fn say<S: Shelf>(shelf: &mut S, line: &[u8], status: u8) -> u8
 
 /// Says why a source is refused.
 pub fn refuse<S: Shelf>(refusal: Refusal, shelf: &mut S) -> u8
-    ensures ends { Ends (view (S.files shelf.old) (S.printed shelf.old) (S.asked shelf.old) (S.spare shelf.old) (S.faults shelf.old) (S.longs shelf.old)) [] (λ files. AsksNothing (IsSaid refusal)) result (view (S.files shelf.new) (S.printed shelf.new) (S.asked shelf.new) (S.spare shelf.new) (S.faults shelf.new) (S.longs shelf.new)) }
-    ensures own { result ≢ 8 }
+    ensures { Ends (S.seen shelf.old) [] (λ files. AsksNothing (IsSaid refusal)) result (S.seen shelf.new) }
 {
     match refusal {
         Refusal::Source(code, place) => say(shelf, source_line(code, place).as_slice(), BAD_SOURCE),
@@ -103,9 +101,8 @@ pub fn load<S: Shelf>(
     kind: FileKind,
     shelf: &mut S,
 ) -> Result<Vec<u8>, u8>
-    ensures ok { IfOk result (λ bytes. Loaded (view (S.files shelf.old) (S.printed shelf.old) (S.asked shelf.old) (S.spare shelf.old) (S.faults shelf.old) (S.longs shelf.old)) name.now (most kind) bytes.items (view (S.files shelf.new) (S.printed shelf.new) (S.asked shelf.new) (S.spare shelf.new) (S.faults shelf.new) (S.longs shelf.new))) }
-    ensures refused { IfErr result (λ status. Unloaded (view (S.files shelf.old) (S.printed shelf.old) (S.asked shelf.old) (S.spare shelf.old) (S.faults shelf.old) (S.longs shelf.old)) name.now (most kind) (too_long_line kind) status (view (S.files shelf.new) (S.printed shelf.new) (S.asked shelf.new) (S.spare shelf.new) (S.faults shelf.new) (S.longs shelf.new))) }
-    ensures own { IfErr result (λ status. status ≢ 8) }
+    ensures ok { IfOk result (λ bytes. Loaded (S.seen shelf.old) name.now (most kind) bytes.items (S.seen shelf.new)) }
+    ensures refused { IfErr result (λ status. Unloaded (S.seen shelf.old) name.now (most kind) (too_long_line kind) status (S.seen shelf.new)) }
 {
     match shelf.load(alloc, name, kind.most()) {
         Ok(bytes) => Ok(bytes),
@@ -121,8 +118,8 @@ pub fn load<S: Shelf>(
 ///
 /// The status of the answer, whose line is printed where it has one.
 pub fn load_image<S: Shelf>(alloc: Global, name: &str, shelf: &mut S) -> Result<Image, u8>
-    ensures ok { IfOk result (λ image. (bytes : List ℕ) × Loaded (view (S.files shelf.old) (S.printed shelf.old) (S.asked shelf.old) (S.spare shelf.old) (S.faults shelf.old) (S.longs shelf.old)) name.now 131072 bytes (view (S.files shelf.new) (S.printed shelf.new) (S.asked shelf.new) (S.spare shelf.new) (S.faults shelf.new) (S.longs shelf.new)) × IsImage bytes image) }
-    ensures refused { IfErr result (λ status. Ends (view (S.files shelf.old) (S.printed shelf.old) (S.asked shelf.old) (S.spare shelf.old) (S.faults shelf.old) (S.longs shelf.old)) (Ask.Load name.now ∷ []) (AfterLoad FileKind.Image name.now (λ bytes. AfterImage bytes (λ image asked status text. ⊥))) status (view (S.files shelf.new) (S.printed shelf.new) (S.asked shelf.new) (S.spare shelf.new) (S.faults shelf.new) (S.longs shelf.new))) }
+    ensures ok { IfOk result (λ image. (bytes : List ℕ) × Loaded (S.seen shelf.old) name.now 131072 bytes (S.seen shelf.new) × IsImage bytes image) }
+    ensures refused { IfErr result (λ status. Ends (S.seen shelf.old) (Ask.Load name.now ∷ []) (AfterLoad FileKind.Image name.now (λ bytes. AfterImage bytes (λ image asked status text. ⊥))) status (S.seen shelf.new)) }
 {
     let bytes = match load(alloc, name, FileKind::Image, shelf) {
         Ok(bytes) => bytes,
@@ -143,9 +140,8 @@ pub fn load_image<S: Shelf>(alloc: Global, name: &str, shelf: &mut S) -> Result<
 ///
 /// The status of the answer, whose line is printed where it has one.
 pub fn load_script<S: Shelf>(alloc: Global, name: &str, shelf: &mut S) -> Result<Script, u8>
-    ensures ok { IfOk result (λ script. (text : List ℕ) × Loaded (view (S.files shelf.old) (S.printed shelf.old) (S.asked shelf.old) (S.spare shelf.old) (S.faults shelf.old) (S.longs shelf.old)) name.now 1048576 text (view (S.files shelf.new) (S.printed shelf.new) (S.asked shelf.new) (S.spare shelf.new) (S.faults shelf.new) (S.longs shelf.new)) × IsText text script) }
-    ensures refused { IfErr result (λ status. Ends (view (S.files shelf.old) (S.printed shelf.old) (S.asked shelf.old) (S.spare shelf.old) (S.faults shelf.old) (S.longs shelf.old)) (Ask.Load name.now ∷ []) (AfterLoad FileKind.Script name.now (λ text. AfterScript text (λ script asked status line. ⊥))) status (view (S.files shelf.new) (S.printed shelf.new) (S.asked shelf.new) (S.spare shelf.new) (S.faults shelf.new) (S.longs shelf.new))) }
-    ensures own { IfErr result (λ status. status ≢ 8) }
+    ensures ok { IfOk result (λ script. (text : List ℕ) × Loaded (S.seen shelf.old) name.now 1048576 text (S.seen shelf.new) × IsText text script) }
+    ensures refused { IfErr result (λ status. Ends (S.seen shelf.old) (Ask.Load name.now ∷ []) (AfterLoad FileKind.Script name.now (λ text. AfterScript text (λ script asked status line. ⊥))) status (S.seen shelf.new)) }
 {
     let text = match load(alloc, name, FileKind::Script, shelf) {
         Ok(text) => text,
@@ -166,9 +162,8 @@ pub fn load_script<S: Shelf>(alloc: Global, name: &str, shelf: &mut S) -> Result
 ///
 /// The status of the answer, whose line is printed where it has one.
 pub fn load_settings<S: Shelf>(alloc: Global, name: &str, shelf: &mut S) -> Result<Settings, u8>
-    ensures ok { IfOk result (λ settings. (bytes : List ℕ) × Loaded (view (S.files shelf.old) (S.printed shelf.old) (S.asked shelf.old) (S.spare shelf.old) (S.faults shelf.old) (S.longs shelf.old)) name.now 4096 bytes (view (S.files shelf.new) (S.printed shelf.new) (S.asked shelf.new) (S.spare shelf.new) (S.faults shelf.new) (S.longs shelf.new)) × AnswersSettings bytes (Ok (numbers_of settings))) }
-    ensures refused { IfErr result (λ status. Ends (view (S.files shelf.old) (S.printed shelf.old) (S.asked shelf.old) (S.spare shelf.old) (S.faults shelf.old) (S.longs shelf.old)) (Ask.Load name.now ∷ []) (AfterLoad FileKind.Settings name.now (λ bytes. AfterReadingSettings bytes (λ numbers asked status line. ⊥))) status (view (S.files shelf.new) (S.printed shelf.new) (S.asked shelf.new) (S.spare shelf.new) (S.faults shelf.new) (S.longs shelf.new))) }
-    ensures own { IfErr result (λ status. status ≢ 8) }
+    ensures ok { IfOk result (λ settings. (bytes : List ℕ) × Loaded (S.seen shelf.old) name.now 4096 bytes (S.seen shelf.new) × AnswersSettings bytes (Ok (numbers_of settings))) }
+    ensures refused { IfErr result (λ status. Ends (S.seen shelf.old) (Ask.Load name.now ∷ []) (AfterLoad FileKind.Settings name.now (λ bytes. AfterReadingSettings bytes (λ numbers asked status line. ⊥))) status (S.seen shelf.new)) }
 {
     let bytes = match load(alloc, name, FileKind::Settings, shelf) {
         Ok(bytes) => bytes,

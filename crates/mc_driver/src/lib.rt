@@ -7,6 +7,7 @@ mod compile;
 mod drive;
 mod ending;
 mod files;
+mod generate;
 mod refusal;
 mod run;
 mod status;

@@ -3,10 +3,12 @@
 ghost use Rattle.std.specs.Prelude.{◌≡◌, ◌≢◌, ◌≤◌, [], ◌∷◌, ◌++◌, length, IsSome, option_map};
 ghost use Rattle.mc_shelf.specs.declared.ask.Ask.{Ask};
 ghost use Rattle.pdp_machine.specs.Run.{machine_run};
-ghost use Rattle.mc_driver.specs.Outside.{view, Ends};
+ghost use Rattle.mc_driver.specs.Outside.{Ends};
 ghost use Rattle.mc_driver.specs.Run.{status_of, ending_for, IsReport};
 ghost use Rattle.mc_words.specs.Settings.{numbers_of};
-ghost use Rattle.mc_driver.specs.Answer.{AsksNothing, AfterSource, IsRunUnder, IsRunAnswer, IsExecAnswer, settings_load};
+ghost use Rattle.mc_driver.specs.Stages.{AsksNothing, settings_load};
+ghost use Rattle.mc_driver.specs.RunAnswer.{AfterSource, IsRunUnder, IsRunAnswer};
+ghost use Rattle.mc_driver.specs.ExecAnswer.{IsExecAnswer};
 
 use crate::compile::image_of;
 use crate::drive::print_report;
@@ -30,9 +32,7 @@ fn play<S: Shelf>(
     journal: bool,
     shelf: &mut S,
 ) -> u8
-    ensures ends { Ends (view (S.files shelf.old) (S.printed shelf.old) (S.asked shelf.old) (S.spare shelf.old) (S.faults shelf.old) (S.longs shelf.old)) [] (λ files. AsksNothing (IsReport origin journal image.now script.now)) result (view (S.files shelf.new) (S.printed shelf.new) (S.asked shelf.new) (S.spare shelf.new) (S.faults shelf.new) (S.longs shelf.new)) }
-    ensures stops { result ≢ 12 → IsSome (machine_run image.now script.now).machine.stop }
-    ensures status { result ≢ 11 → result ≢ 12 → result ≡ status_of (ending_for origin (machine_run image.now script.now).machine) }
+    ensures { Ends (S.seen shelf.old) [] (λ files. AsksNothing (IsReport origin journal image.now script.now)) result (S.seen shelf.new) }
 {
     let Ok(mut machine) = Machine::open(alloc, image, script) else {
         return NO_MEMORY;
@@ -57,8 +57,7 @@ fn run_source<S: Shelf>(
     shelf: &mut S,
 ) -> u8
     requires { length source.now ≤ 262144 }
-    ensures ends { Ends (view (S.files shelf.old) (S.printed shelf.old) (S.asked shelf.old) (S.spare shelf.old) (S.faults shelf.old) (S.longs shelf.old)) [] (λ files. AsksNothing (AfterSource source.now (numbers_of settings) journal script.now)) result (view (S.files shelf.new) (S.printed shelf.new) (S.asked shelf.new) (S.spare shelf.new) (S.faults shelf.new) (S.longs shelf.new)) }
-    ensures own { result ≢ 8 }
+    ensures { Ends (S.seen shelf.old) [] (λ files. AsksNothing (AfterSource source.now (numbers_of settings) journal script.now)) result (S.seen shelf.new) }
 {
     match image_of(alloc, source, settings) {
         Ok(image) => play(alloc, &image, script, Origin::Compiled, journal, shelf),
@@ -75,8 +74,7 @@ fn run_under<S: Shelf>(
     journal: bool,
     shelf: &mut S,
 ) -> u8
-    ensures ends { Ends (view (S.files shelf.old) (S.printed shelf.old) (S.asked shelf.old) (S.spare shelf.old) (S.faults shelf.old) (S.longs shelf.old)) (Ask.Load source.now ∷ Ask.Load script.now ∷ []) (λ files. IsRunUnder source.now script.now journal files (numbers_of settings)) result (view (S.files shelf.new) (S.printed shelf.new) (S.asked shelf.new) (S.spare shelf.new) (S.faults shelf.new) (S.longs shelf.new)) }
-    ensures own { result ≢ 8 }
+    ensures { Ends (S.seen shelf.old) (Ask.Load source.now ∷ Ask.Load script.now ∷ []) (λ files. IsRunUnder source.now script.now journal files (numbers_of settings)) result (S.seen shelf.new) }
 {
     let source = match load(alloc, source, FileKind::Source, shelf) {
         Ok(source) => source,
@@ -98,8 +96,7 @@ pub fn run<S: Shelf>(
     journal: bool,
     shelf: &mut S,
 ) -> u8
-    ensures ends { Ends (view (S.files shelf.old) (S.printed shelf.old) (S.asked shelf.old) (S.spare shelf.old) (S.faults shelf.old) (S.longs shelf.old)) (settings_load (option_map (λ s. s.now) settings.entry) ++ Ask.Load source.now ∷ Ask.Load script.now ∷ []) (IsRunAnswer source.now script.now (option_map (λ s. s.now) settings.entry) journal) result (view (S.files shelf.new) (S.printed shelf.new) (S.asked shelf.new) (S.spare shelf.new) (S.faults shelf.new) (S.longs shelf.new)) }
-    ensures own { result ≢ 8 }
+    ensures { Ends (S.seen shelf.old) (settings_load (option_map (λ s. s.now) settings.entry) ++ Ask.Load source.now ∷ Ask.Load script.now ∷ []) (IsRunAnswer source.now script.now (option_map (λ s. s.now) settings.entry) journal) result (S.seen shelf.new) }
 {
     match settings {
         None => run_under(alloc, source, script, USUAL, journal, shelf),
@@ -112,7 +109,7 @@ pub fn run<S: Shelf>(
 
 /// The command `exec`.
 pub fn exec<S: Shelf>(alloc: Global, image: &str, script: &str, journal: bool, shelf: &mut S) -> u8
-    ensures { Ends (view (S.files shelf.old) (S.printed shelf.old) (S.asked shelf.old) (S.spare shelf.old) (S.faults shelf.old) (S.longs shelf.old)) (Ask.Load image.now ∷ Ask.Load script.now ∷ []) (IsExecAnswer image.now script.now journal) result (view (S.files shelf.new) (S.printed shelf.new) (S.asked shelf.new) (S.spare shelf.new) (S.faults shelf.new) (S.longs shelf.new)) }
+    ensures { Ends (S.seen shelf.old) (Ask.Load image.now ∷ Ask.Load script.now ∷ []) (IsExecAnswer image.now script.now journal) result (S.seen shelf.new) }
 {
     let image = match load_image(alloc, image, shelf) {
         Ok(image) => image,

@@ -27,3 +27,55 @@ pub fn with_words(alloc: Global, words: &str, others: &str) -> Result<String, Me
     let (before, after) = PRINTS_A.split_once(words).unwrap_or(("no such words", ""));
     format!(in alloc; "{before}{others}{after}").map_err(|_| Memory)
 }
+
+/// What `generate 3` prints.
+pub const RING_OF_3: &str = "module ring;
+const last = 3; laps = 100;
+device module console [4];
+define put;
+var TPS [177564B]: bits; TPB [177566B]: char;
+procedure put(c: char);
+begin
+  while not TPS[7] do end;
+  TPB := c
+end put;
+end console;
+interface module gate;
+define arrive, hold, pass;
+use last, marshal;
+var turn: signal; count: integer;
+procedure arrive(r: integer);
+begin
+  count := count + 1;
+  if count = last then marshal end;
+  wait(turn, r)
+end arrive;
+procedure hold(r: integer);
+begin wait(turn, r) end hold;
+procedure pass;
+begin send(turn) end pass;
+end gate;
+process marshal;
+var k: integer;
+begin
+  k := 0;
+  while k < last * laps do pass; k := k + 1 end
+end marshal;
+process member(r: integer);
+var lap: integer;
+begin
+  arrive(r);
+  put(char(100B + r));
+  lap := 1;
+  while lap < laps do
+    hold(lap * last + r);
+    put(char(100B + r));
+    lap := lap + 1
+  end
+end member;
+var r: integer;
+begin
+  r := last;
+  while r > 0 do member(r); r := r - 1 end
+end ring.
+";

@@ -3,7 +3,7 @@
 use crate::calls::Call;
 use crate::expected::{Expected, Printed, compared};
 use crate::rows::{Row, message, mismatch};
-use crate::sources::{PRINTED_A, PRINTS_A, shelf_files};
+use crate::sources::{PRINTED_A, PRINTS_A, RING_OF_3, shelf_files};
 use mc_word::bytes::Memory;
 use std::alloc::Global;
 use std::test::Fail;
@@ -31,7 +31,7 @@ impl Row for WordRow {
     }
 }
 
-/// Words that are no command, or one that is not built yet.
+/// Words that are no command, one that is not built yet, or one that loads no file.
 const WORDS: &[WordRow] = &[
     WordRow("", 1, "words\n"),
     WordRow("run a", 1, "words\n"),
@@ -41,7 +41,9 @@ const WORDS: &[WordRow] = &[
     WordRow("compile --journal a b", 1, "words\n"),
     WordRow("check", 1, "words\n"),
     WordRow("check --journal a", 1, "words\n"),
-    WordRow("generate 26", 15, "not yet words\n"),
+    WordRow("generate 27", 1, "words\n"),
+    WordRow("generate 3", 0, RING_OF_3),
+    WordRow("generate 03", 0, RING_OF_3),
     WordRow("self 3", 15, "not yet words\n"),
 ];
 

@@ -1,8 +1,8 @@
 -- What steps of evaluation make of a configuration, from the equations of their parts.
-use Rattle.std.specs.Prelude.{◌≡◌, ℕ, List, ◌∷◌, ◌++◌, Option, None, Result, Ok, Err, OnOk, OnErr, Bool, true, false, if◌then◌else◌}
+use Rattle.std.specs.Prelude.{◌≡◌, ℕ, ◌==◌, not, List, ◌∷◌, ◌++◌, Option, None, Result, Ok, Err, OnOk, OnErr, Bool, true, false, if◌then◌else◌}
 use Rattle.std.proofs.Common.{ap, ◌∙◌, sym, refl}
 use Rattle.mc_prog.specs.Resolved.{Resolved}
-use Rattle.mc_prog.specs.Values.{Outcome, Gives, Traps}
+use Rattle.mc_prog.specs.Values.{Outcome, Gives, Traps, truth}
 use Rattle.mc_meaning.specs.declared.process.Item.{Item}
 use Rattle.mc_meaning.specs.declared.process.Item.TheVariants.{Evaluates}
 use Rattle.mc_meaning.specs.declared.store.Found.{Found}
@@ -73,7 +73,7 @@ operated-one p c new n node q r a o rest pop out step =
 
 pub operated-two : (p : Resolved) (c new : Configuration) (n node : ℕ) (q one two : ProcessState) (a b : ℕ) (o : Outcome) (rest : List Item)
     → q ≡ record one { found = found.Value b ∷ one.found } → one ≡ record two { found = found.Value a ∷ two.found }
-    → o ≡ binary (type_at p (part_at p node 0)) (form_at p node) a b → new ≡ gives c n two two.found rest o
+    → o ≡ binary (form_at p node) a b → new ≡ gives c n two two.found rest o
     → new ≡ operate p c n q node rest true q.found
 operated-two p c new n node q one two a b o rest first second out step =
     step ∙ ap (λ (x : Outcome). gives c n two two.found rest x) out ∙ sym (gives-found c n two (found.Value b ∷ (found.Value a ∷ two.found)) two.found rest _)
@@ -99,7 +99,7 @@ bit-read c mid new n i q one two there w v rest taken word value put reads step 
 
 pub bit-written : (c mid new : Configuration) (n i : ℕ) (q one two : ProcessState) (there : Target) (w : ℕ) (rest : List Item)
     → q ≡ record one { found = found.Value w ∷ one.found } → one ≡ record two { found = found.Bit there i ∷ two.found }
-    → mid ≡ after_writing_bit c there i w → new ≡ goes_on mid n two two.found rest → new ≡ write_bit c n q rest q.found
+    → mid ≡ after_writing_bit c there i (truth (not (w == 0))) → new ≡ goes_on mid n two two.found rest → new ≡ write_bit c n q rest q.found
 bit-written c mid new n i q one two there w rest first second writes step =
-    step ∙ ap (λ (m : Configuration). goes_on m n two two.found rest) writes ∙ bits_later c n two two.found rest there i w
+    step ∙ ap (λ (m : Configuration). goes_on m n two two.found rest) writes ∙ bits_later c n two two.found rest there i (truth (not (w == 0)))
     ∙ sym (ap (λ (s : ProcessState). write_bit c n s rest s.found) (twice q one two (found.Value w) (found.Bit there i) first second))

@@ -7,3 +7,4 @@ pub mod EvaluationLaws
 pub mod ActionLaws
 pub mod FormLaws
 pub mod LabelLaws
+pub mod KeepLaws

@@ -66,9 +66,9 @@ value_of t there w = if is_register there && (t == char) then w % 256 else w
 abbrev pub bit_of : ℕ → ℕ → ℕ
 bit_of w i = w / (2 ^ i) % 2
 
--- the word with this bit
+-- the word with this bit; past the bits of a word there is none
 abbrev pub with_bit : ℕ → ℕ → ℕ → ℕ
-with_bit w i bit = (w - bit_of w i * 2 ^ i) + bit * 2 ^ i
+with_bit w i bit = ((w - bit_of w i * 2 ^ i) + bit * 2 ^ i) % 65536
 
 -- A bit of a word is written: the word is read, and written with this bit.
 abbrev pub after_writing_bit : Configuration → Target → ℕ → ℕ → Configuration

@@ -1,5 +1,5 @@
 -- Where a program's run stands: its variables, its processes and the devices.
-use Rattle.std.specs.Prelude.{◌≡◌, ℕ, ◌+◌, ◌==◌, Bool, true, false, ◌&&◌, List, [], ◌∷◌, Option, Some, None, slice_get, if◌then◌else◌}
+use Rattle.std.specs.Prelude.{◌≡◌, ℕ, ◌+◌, ◌==◌, Bool, true, false, ◌&&◌, not, is_some, List, [], ◌∷◌, Option, Some, None, slice_get, if◌then◌else◌}
 use Rattle.pdp_dev.specs.declared.devices.Devices.{Devices}
 use Rattle.pdp_dev.specs.declared.entry.Entry.{Entry}
 use Rattle.pdp_dev.specs.Devices.{opening_devices, request_of}
@@ -111,9 +111,9 @@ priority_at c (Some n) = priority_of (slice_get c.processes n)
 abbrev pub acting_priority : Configuration → ℕ
 acting_priority c = priority_at c (topmost c)
 
--- a request stands that is above it
+-- no trap has happened, and a request stands that is above it
 abbrev pub can_grant : Configuration → Bool
-can_grant c = is_above (acting_priority c) (request_of c.devices)
+can_grant c = not (is_some c.trap) && is_above (acting_priority c) (request_of c.devices)
 
 abbrev pub is_live : State → ℕ
 is_live Ended = 0

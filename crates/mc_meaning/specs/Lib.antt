@@ -15,3 +15,4 @@ pub mod StoredWords
 pub mod Kept
 pub mod Selected
 pub mod Stepping
+pub mod Changes

@@ -6,32 +6,31 @@ use Rattle.mc_tree.specs.declared.expression.Relation.TheVariants.{Equal, Unequa
 use Rattle.mc_prog.specs.declared.program.Form.{Form}
 use Rattle.mc_prog.specs.declared.program.Form.TheVariants as form
 use Rattle.mc_prog.specs.declared.program.Standard.TheVariants as standard
-use Rattle.mc_prog.specs.Known.{boolean, integer}
+use Rattle.mc_prog.specs.Known.{boolean}
 use Rattle.mc_prog.specs.Resolved.{Resolved}
-use Rattle.mc_prog.specs.Values.{Outcome, Gives, added, subtracted, multiplied, negated, divided, remainder, character, holds_of_integers, holds_of_words, truth}
+use Rattle.mc_prog.specs.Values.{Outcome, Gives, added, subtracted, multiplied, negated, divided, remainder, character, holds, truth}
 use Rattle.mc_meaning.specs.Parts.{form_at, part_at}
 
--- two values of one type are compared: integers by their numbers, others by their words
-abbrev pub compared : ℕ → Relation → ℕ → ℕ → Outcome
-compared t relation a b = Gives (truth (if t == integer then holds_of_integers relation a b else holds_of_words relation a b))
+abbrev pub compared : Relation → ℕ → ℕ → Outcome
+compared relation a b = Gives (truth (holds relation a b))
 
--- what an operator gives of two values, whose left one has the type t
-abbrev pub binary : ℕ → Form → ℕ → ℕ → Outcome
-binary t form.Equal a b = compared t Equal a b
-binary t form.Unequal a b = compared t Unequal a b
-binary t form.Less a b = compared t Less a b
-binary t form.LessEqual a b = compared t LessEqual a b
-binary t form.Greater a b = compared t Greater a b
-binary t form.GreaterEqual a b = compared t GreaterEqual a b
-binary t form.Add a b = added a b
-binary t form.Subtract a b = subtracted a b
-binary t form.Multiply a b = multiplied a b
-binary t form.Divide a b = divided a b
-binary t form.Modulo a b = remainder a b
-binary t form.And a b = Gives (bit_and a b)
-binary t form.Or a b = Gives (bit_or a b)
-binary t form.Xor a b = Gives (bit_xor a b)
-binary t other a b = Gives a
+-- what an operator gives of two values
+abbrev pub binary : Form → ℕ → ℕ → Outcome
+binary form.Equal a b = compared Equal a b
+binary form.Unequal a b = compared Unequal a b
+binary form.Less a b = compared Less a b
+binary form.LessEqual a b = compared LessEqual a b
+binary form.Greater a b = compared Greater a b
+binary form.GreaterEqual a b = compared GreaterEqual a b
+binary form.Add a b = added a b
+binary form.Subtract a b = subtracted a b
+binary form.Multiply a b = multiplied a b
+binary form.Divide a b = divided a b
+binary form.Modulo a b = remainder a b
+binary form.And a b = Gives (bit_and a b)
+binary form.Or a b = Gives (bit_or a b)
+binary form.Xor a b = Gives (bit_xor a b)
+binary other a b = Gives a
 
 -- the conversions
 abbrev pub converted : Form → ℕ → Outcome

@@ -4,7 +4,7 @@ use Rattle.tracking.specs.Runs.{after, IsRunOf}
 use Rattle.pdp_dev.specs.declared.devices.Request.{Request}
 use Rattle.pdp_dev.specs.declared.entry.Event.{Event}
 use Rattle.pdp_dev.specs.declared.entry.Entry.TheVariants.{Event as EventEntry, Grant as GrantEntry}
-use Rattle.pdp_dev.specs.Devices.{happened, request_of, granted}
+use Rattle.pdp_dev.specs.Devices.{happened, IsEvent, request_of, granted}
 use Rattle.mc_prog.specs.Resolved.{Resolved}
 use Rattle.mc_meaning.specs.declared.config.Mark.TheVariants.{Granted}
 use Rattle.mc_meaning.specs.declared.config.Nested.{Nested}
@@ -77,20 +77,24 @@ abbrev pub is_ready_process : Option ProcessState → Bool
 is_ready_process None = false
 is_ready_process (Some q) = is_ready q.state
 
--- the steps that are possible: after a trap, events alone
-abbrev pub IsStep : Configuration → Step → Type 0
-IsStep c (Occurs e) = Unit {0}
-IsStep c Grants = (c.trap ≡ None) × (can_grant c ≡ true)
-IsStep c Evals = (c.trap ≡ None) × (can_grant c ≡ false) × IsSome (topmost c)
-IsStep c (Chooses p) =
+abbrev pub CanChoose : Configuration → ℕ → Type 0
+CanChoose c p =
     (c.trap ≡ None) × (can_grant c ≡ false) × (topmost c ≡ None) × (is_ready_process (slice_get c.processes p) ≡ true)
+
+-- The steps that are possible: an event brings a byte; after a trap, events alone. An evaluation step changes the
+-- configuration: one that finds nothing to do is none.
+abbrev pub IsStep : Resolved → Configuration → Step → Type 0
+IsStep program c (Occurs e) = IsEvent e
+IsStep program c Grants = can_grant c ≡ true
+IsStep program c Evals = (c.trap ≡ None) × (can_grant c ≡ false) × IsSome (topmost c) × (evaluated program c ≢ c)
+IsStep program c (Chooses p) = CanChoose c p
 
 abbrev pub config_after : Resolved → Configuration → List Step → Configuration
 config_after program c run = after (steps program) c run
 
 -- a run of the program, from its opening
 abbrev pub IsRun : Resolved → List Step → Type 0
-IsRun program run = IsRunOf (steps program) IsStep (opening program) run
+IsRun program run = IsRunOf (steps program) (IsStep program) (opening program) run
 
 -- every step but an event earns instructions
 abbrev pub earns : Step → ℕ
@@ -127,6 +131,6 @@ abbrev pub IsDone : (possible step same : Type 0) → Bool → Type 0
 IsDone possible step same true = possible × step
 IsDone possible step same false = (possible → ⊥) × same
 
--- whether the topmost process may make an evaluation step
+-- whether the topmost process may make an evaluation step, where it finds something to do
 abbrev pub may_evaluate : Configuration → Bool
 may_evaluate c = not (is_some c.trap) && (not (can_grant c) && is_some (topmost c))

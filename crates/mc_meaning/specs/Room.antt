@@ -11,6 +11,7 @@ use Rattle.mc_prog.specs.declared.program.ProcessInfo.{ProcessInfo}
 use Rattle.mc_prog.specs.Resolved.{Resolved}
 use Rattle.mc_meaning.specs.declared.config.Mark.TheVariants.{Woken, Granted}
 use Rattle.mc_meaning.specs.declared.config.Nested.{Nested}
+use Rattle.mc_meaning.specs.declared.config.Waiter.{Waiter}
 use Rattle.mc_meaning.specs.declared.process.Item.{Item}
 use Rattle.mc_meaning.specs.declared.process.Item.TheVariants.{CallsBody, Calls, Starts}
 use Rattle.mc_meaning.specs.declared.process.ProcessKind.{ProcessKind}
@@ -53,8 +54,11 @@ Exclusive p c = (m n k : ℕ) → IsExclusive (slice_get p.modules m) → IsInsi
 
 -- The facts that steps of accepted programs keep beside it
 
+abbrev pub waiting_of : List Waiter → List ℕ
+waiting_of waiters = map (λ w. w.process) waiters
+
 abbrev pub IsAtNone : Configuration → ℕ → Type 0
-IsAtNone c n = (c.foot ≢ Some n) × (Contains (members_of c.nest) n → ⊥) × (Contains (map (λ w. w.process) c.waiters) n → ⊥)
+IsAtNone c n = (c.foot ≢ Some n) × (Contains (members_of c.nest) n → ⊥) × (Contains (waiting_of c.waiters) n → ⊥)
 
 abbrev pub IsDriverKind : ProcessKind → Type 0
 IsDriverKind (Driver vector) = Unit {0}
@@ -63,12 +67,24 @@ IsDriverKind other = ⊥
 -- Each process is in one place, by its state: the foot or the nest, among the waiters, or in none of these.
 abbrev pub IsPlaced : Configuration → ℕ → ProcessState → State → Type 0
 IsPlaced c n q Acting =
-    ((c.foot ≡ Some n) × (IsDriverKind q.kind → ⊥) × (Contains (members_of c.nest) n → ⊥) × (Contains (map (λ w. w.process) c.waiters) n → ⊥))
-    ⊎ (Contains (members_of c.nest) n × IsDriverKind q.kind × (c.foot ≢ Some n) × (Contains (map (λ w. w.process) c.waiters) n → ⊥))
+    ((c.foot ≡ Some n) × (IsDriverKind q.kind → ⊥) × (Contains (members_of c.nest) n → ⊥) × (Contains (waiting_of c.waiters) n → ⊥))
+    ⊎ (Contains (members_of c.nest) n × IsDriverKind q.kind × (c.foot ≢ Some n) × (Contains (waiting_of c.waiters) n → ⊥))
 IsPlaced c n q Ready = IsAtNone c n × (IsDriverKind q.kind → ⊥)
-IsPlaced c n q Delayed = (c.foot ≢ Some n) × (Contains (members_of c.nest) n → ⊥) × Contains (map (λ w. w.process) c.waiters) n
+IsPlaced c n q Delayed = (c.foot ≢ Some n) × (Contains (members_of c.nest) n → ⊥) × Contains (waiting_of c.waiters) n
 IsPlaced c n q AtDoio = IsAtNone c n × IsDriverKind q.kind
 IsPlaced c n q Ended = IsAtNone c n
+
+-- a process is there that stands so
+abbrev pub IsOneThat : (ProcessState → Type 0) → Option ProcessState → Type 0
+IsOneThat stands None = ⊥
+IsOneThat stands (Some q) = stands q
+
+-- The numbers in the three places are those of processes: that of the foot acts and is no device process, those of the nest act
+-- and are device processes, and those of waiters are delayed.
+pub record AreProcesses (c : Configuration) : Type 0 where
+  pub foot : (n : ℕ) → c.foot ≡ Some n → IsOneThat (λ q. (q.state ≡ Acting) × (IsDriverKind q.kind → ⊥)) (slice_get c.processes n)
+  pub nest : (n : ℕ) → Contains (members_of c.nest) n → IsOneThat (λ q. (q.state ≡ Acting) × IsDriverKind q.kind) (slice_get c.processes n)
+  pub waiters : (n : ℕ) → Contains (waiting_of c.waiters) n → IsOneThat (λ q. q.state ≡ Delayed) (slice_get c.processes n)
 
 -- none stands twice
 abbrev pub AreDifferent : List ℕ → Type 0
@@ -102,13 +118,14 @@ pub record HasItsPriority (p : Resolved) (q : ProcessState) : Type 0 where
 pub record Keeps (p : Resolved) (c : Configuration) : Type 0 where
   pub exclusive : Exclusive p c
   pub placed : (n : ℕ) (q : ProcessState) → slice_get c.processes n ≡ Some q → IsPlaced c n q q.state
-  pub once : AreDifferent (members_of c.nest) × AreDifferent (map (λ w. w.process) c.waiters)
+  pub processes : AreProcesses c
+  pub once : AreDifferent (members_of c.nest) × AreDifferent (waiting_of c.waiters)
   pub nested : AreNested c c.nest
   pub above : IsAboveFoot c c.foot c.nest
   pub priorities : (n : ℕ) (q : ProcessState) → slice_get c.processes n ≡ Some q → HasItsPriority p q
 
 -- The law that every step of a run keeps these facts. It is for the programs that keep the rules of modules and devices, and is
--- stated here; it is not proved.
+-- stated here; that the opening has them is proved, and the rest is not.
 abbrev pub KeepsAlways : Resolved → Type 0
 KeepsAlways p = (run : List Step) → IsRun p run → Keeps p (config_after p (opening p) run)
 

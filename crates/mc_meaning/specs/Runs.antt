@@ -4,7 +4,7 @@ use Rattle.tracking.specs.Runs.{after, IsRunOf}
 use Rattle.pdp_dev.specs.declared.devices.Request.{Request}
 use Rattle.pdp_dev.specs.declared.entry.Event.{Event}
 use Rattle.pdp_dev.specs.declared.entry.Entry.TheVariants.{Event as EventEntry, Grant as GrantEntry}
-use Rattle.pdp_dev.specs.Devices.{happened, request_of, granted}
+use Rattle.pdp_dev.specs.Devices.{happened, IsEvent, request_of, granted}
 use Rattle.mc_prog.specs.Program.{Program}
 use Rattle.mc_meaning.specs.Config.{Kind, Main, Regular, Driver, State, Acting, Ready, Delayed, AtDoio, Ended, Process, Granted, Config, opening_config, topmost, can_grant, live, IsNoneReady}
 use Rattle.mc_meaning.specs.Evaluation.{with_process, eval}
@@ -63,12 +63,13 @@ abbrev IsReadyProcess : Option Process → Type 0
 IsReadyProcess None = ⊥
 IsReadyProcess (Some q) = q.state ≡ Ready
 
--- the steps that are possible: after a trap, events alone
-abbrev pub IsStep : Config → Step → Type 0
-IsStep c (Occurs e) = Unit {0}
-IsStep c Grants = (c.trap ≡ None) × (can_grant c ≡ true)
-IsStep c Evals = (c.trap ≡ None) × (can_grant c ≡ false) × IsSome (topmost c)
-IsStep c (Chooses p) =
+-- The steps that are possible: an event brings a byte; after a trap, events alone. An evaluation step changes the
+-- configuration: one that finds nothing to do is none.
+abbrev pub IsStep : Program → Config → Step → Type 0
+IsStep program c (Occurs e) = IsEvent e
+IsStep program c Grants = (c.trap ≡ None) × (can_grant c ≡ true)
+IsStep program c Evals = (c.trap ≡ None) × (can_grant c ≡ false) × IsSome (topmost c) × (eval program c ≢ c)
+IsStep program c (Chooses p) =
     (c.trap ≡ None) × (can_grant c ≡ false) × (topmost c ≡ None) × IsReadyProcess (slice_get c.processes p)
 
 abbrev pub config_after : Program → Config → List Step → Config
@@ -76,7 +77,7 @@ config_after program c run = after (steps program) c run
 
 -- a run of the program, from its opening
 abbrev pub IsRun : Program → List Step → Type 0
-IsRun program run = IsRunOf (steps program) IsStep (opening_config program) run
+IsRun program run = IsRunOf (steps program) (IsStep program) (opening_config program) run
 
 -- every step but an event earns instructions
 abbrev pub earns : Step → ℕ

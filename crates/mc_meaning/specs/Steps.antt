@@ -74,7 +74,7 @@ gives c n q found_ rest (Gives w) = goes_on c n q (found.Value w ∷ found_) res
 gives c n q found_ rest (Traps k) = trapped c k
 
 abbrev pub operate : Resolved → Configuration → ℕ → ProcessState → ℕ → List Item → Bool → List Found → Configuration
-operate p c n q node rest true (found.Value b ∷ (found.Value a ∷ found_)) = gives c n q found_ rest (binary (type_at p (part_at p node 0)) (form_at p node) a b)
+operate p c n q node rest true (found.Value b ∷ (found.Value a ∷ found_)) = gives c n q found_ rest (binary (form_at p node) a b)
 operate p c n q node rest false (found.Value a ∷ found_) = gives c n q found_ rest (unary p node (type_at p (part_at p node 0)) (form_at p node) a)
 operate p c n q node rest two other = c
 
@@ -95,7 +95,7 @@ write c n q rest (found.Value w ∷ (found.Named there ∷ found_)) = after_writ
 write c n q rest other = c
 
 abbrev pub write_bit : Configuration → ℕ → ProcessState → List Item → List Found → Configuration
-write_bit c n q rest (found.Value w ∷ (found.Bit there i ∷ found_)) = after_writing_bit (goes_on c n q found_ rest) there i w
+write_bit c n q rest (found.Value w ∷ (found.Bit there i ∷ found_)) = after_writing_bit (goes_on c n q found_ rest) there i (truth (not (w == 0)))
 write_bit c n q rest other = c
 
 abbrev pub spread : Resolved → Configuration → ℕ → ProcessState → ℕ → List Item → List Found → Configuration

@@ -1,6 +1,7 @@
 // What names, elements, fields and bits name, and the words of bits.
 
 ghost use Rattle.std.specs.Prelude.{◌≡◌, ◌<◌, ◌+◌, ◌*◌, ◌^◌, IfOk, MatchOption, Some, None, int_lt, if◌then◌else◌, ◌-ℤ◌};
+ghost use Rattle.mc_prog.specs.Values.{truth};
 ghost use Rattle.mc_word.specs.Word.{signed_of};
 ghost use Rattle.mc_meaning.specs.Access.{bit_of, cell_target, element_offset, field_in, field_offset, moved, moved_name, reference_of, slot_target, value_of, with_bit, words_above};
 
@@ -167,22 +168,17 @@ pub(crate) fn bit_of(word: Word, i: u16) -> Word
     }
 }
 
-/// The word with this bit, where it is a bit of a word.
-pub(crate) fn with_bit(word: Word, i: u16, bit: Word) -> Result<Word, Memory>
-    ensures { IfOk result (λ w. w ≡ with_bit word i bit) }
+/// The word with this bit; past the bits of a word there is none.
+pub(crate) fn with_bit(word: Word, i: u16, is_set: bool) -> Word
+    ensures { result ≡ with_bit word i (truth is_set) }
 {
     let Some(unit) = unit_of(i) else {
-        return Err(Memory);
+        return word;
     };
     let other = word - word / unit % 2 * unit;
-    if bit == 0 {
-        return Ok(other);
-    }
-    if bit > 1 {
-        return Err(Memory);
-    }
-    match other.checked_add(unit) {
-        Some(sum) => Ok(sum),
-        None => Err(Memory),
+    if is_set {
+        other.wrapping_add(unit)
+    } else {
+        other
     }
 }

@@ -1,11 +1,13 @@
 // Where a program's run stands: its variables, its processes and the devices.
 
 ghost use Rattle.std.specs.Prelude.{◌≡◌, ◌∷◌, ◌++◌, [], IfOk, MatchOption, None, OnOk, OnErr, Some, length, slice_get, slice_set};
+ghost use Rattle.mc_prog.specs.Values.{truth};
 ghost use Rattle.mc_meaning.specs.Access.{after_reading, after_writing, after_writing_bit, moved_word, register_written, word_at};
 ghost use Rattle.mc_meaning.specs.Actions.{kind_at, nest_with, set_state, trapped, vacated, was_started, without_waiter};
 ghost use Rattle.mc_meaning.specs.Calling.{bound, with_process};
 ghost use Rattle.mc_meaning.specs.Configuration.{opening, stored, topmost};
 ghost use Rattle.mc_meaning.specs.Kept.{configuration_of};
+ghost use Rattle.mc_meaning.specs.Room.{Keeps};
 ghost use Rattle.mc_meaning.specs.Steps.{goes_on};
 
 mod moves;
@@ -41,9 +43,11 @@ pub struct Config {
 }
 
 impl Config {
-    /// The opening: all words are zero, the devices are as at opening, and the main process alone exists and acts.
+    /// The opening: all words are zero, the devices are as at opening, and the main process alone exists and acts. It has
+    /// mutual exclusion, and what else the steps of accepted programs keep.
     pub fn open(alloc: Global, program: &Program) -> Result<Config, Memory>
-        ensures { IfOk result (λ c. configuration_of c ≡ opening program.now) }
+        ensures opening { IfOk result (λ c. configuration_of c ≡ opening program.now) }
+        ensures keeps { IfOk result (λ c. Keeps program.now (configuration_of c)) }
     {
         let mut processes = Vec::new(alloc);
         processes.push(Process::main(alloc, program)?)?;
@@ -193,11 +197,11 @@ impl Config {
     }
 
     /// Writes a bit of a word: the word is read, and written with this bit.
-    pub(crate) fn writes_bit(&mut self, there: Target, i: u16, bit: Word) -> Result<(), Memory>
-        ensures ok { OnOk result (configuration_of self.new ≡ after_writing_bit (configuration_of self.old) there i bit) }
+    pub(crate) fn writes_bit(&mut self, there: Target, i: u16, is_set: bool) -> Result<(), Memory>
+        ensures ok { OnOk result (configuration_of self.new ≡ after_writing_bit (configuration_of self.old) there i (truth is_set)) }
         ensures err { OnErr result (configuration_of self.new ≡ configuration_of self.old) }
     {
-        let whole = with_bit(self.word_at(there), i, bit)?;
+        let whole = with_bit(self.word_at(there), i, is_set);
         let devices = self.devices;
         self.reads(there);
         let written = self.writes(there, whole);

@@ -317,11 +317,10 @@ fn gives(
 
 // What the operator at a node gives of two values.
 fn binary_at(program: &Program, node: u32, a: Word, b: Word) -> Result<Word, Trap>
-    ensures { outcome_of result ≡ binary (type_at program.now (part_at program.now node 0)) (form_at program.now node) a b }
+    ensures { outcome_of result ≡ binary (form_at program.now node) a b }
 {
-    let type_of = type_at(program, part_at(program, node, 0));
     match form_at(program, node) {
-        Some(form) => binary(type_of, form, a, b),
+        Some(form) => binary(form, a, b),
         None => Ok(a),
     }
 }
@@ -483,7 +482,7 @@ pub(crate) fn write_bit(
     match q.pop_found() {
         Some(Found::Value(word)) => match q.pop_found() {
             Some(Found::Bit(there, i)) => {
-                config.writes_bit(there, i, word)?;
+                config.writes_bit(there, i, word != 0)?;
                 config.goes_on(n, q, rest);
                 Ok(())
             }

@@ -7,15 +7,9 @@ ghost use Rattle.mc_meaning.specs.Operations.{compared, binary, converted, unary
 
 use crate::parts::{BOOLEAN, part_at};
 use mc_prog::program::{Form, Program, Standard};
-use mc_prog::values::{
-    Trap, add, divide, holds_of_integers, holds_of_words, modulo, multiply, negate, subtract,
-    to_char,
-};
+use mc_prog::values::{Trap, add, divide, holds, modulo, multiply, negate, subtract, to_char};
 use mc_tree::expression::Relation;
 use mc_word::Word;
-
-/// The number of the type of integers.
-pub(crate) const INTEGER: u32 = 0;
 
 /// The word of a truth.
 pub(crate) fn truth(holds: bool) -> Word
@@ -24,29 +18,24 @@ pub(crate) fn truth(holds: bool) -> Word
     if holds { 1 } else { 0 }
 }
 
-// Compares two values of one type.
-fn compared(type_of: u32, relation: Relation, a: Word, b: Word) -> Result<Word, Trap>
-    ensures { MatchResult result (λ w. compared type_of relation a b ≡ Gives w) (λ trap. compared type_of relation a b ≡ Traps (number_of trap)) }
+// Compares two values.
+fn compared(relation: Relation, a: Word, b: Word) -> Result<Word, Trap>
+    ensures { MatchResult result (λ w. compared relation a b ≡ Gives w) (λ trap. compared relation a b ≡ Traps (number_of trap)) }
 {
-    let holds = if type_of == INTEGER {
-        holds_of_integers(relation, a, b)
-    } else {
-        holds_of_words(relation, a, b)
-    };
-    Ok(truth(holds))
+    Ok(truth(holds(relation, a, b)))
 }
 
-/// What an operator gives of two values, the left one of this type.
-pub(crate) fn binary(type_of: u32, form: &Form, a: Word, b: Word) -> Result<Word, Trap>
-    ensures { MatchResult result (λ w. binary type_of form.now a b ≡ Gives w) (λ trap. binary type_of form.now a b ≡ Traps (number_of trap)) }
+/// What an operator gives of two values.
+pub(crate) fn binary(form: &Form, a: Word, b: Word) -> Result<Word, Trap>
+    ensures { MatchResult result (λ w. binary form.now a b ≡ Gives w) (λ trap. binary form.now a b ≡ Traps (number_of trap)) }
 {
     match form {
-        Form::Equal => compared(type_of, Relation::Equal, a, b),
-        Form::Unequal => compared(type_of, Relation::Unequal, a, b),
-        Form::Less => compared(type_of, Relation::Less, a, b),
-        Form::LessEqual => compared(type_of, Relation::LessEqual, a, b),
-        Form::Greater => compared(type_of, Relation::Greater, a, b),
-        Form::GreaterEqual => compared(type_of, Relation::GreaterEqual, a, b),
+        Form::Equal => compared(Relation::Equal, a, b),
+        Form::Unequal => compared(Relation::Unequal, a, b),
+        Form::Less => compared(Relation::Less, a, b),
+        Form::LessEqual => compared(Relation::LessEqual, a, b),
+        Form::Greater => compared(Relation::Greater, a, b),
+        Form::GreaterEqual => compared(Relation::GreaterEqual, a, b),
         Form::Add => add(a, b),
         Form::Subtract => subtract(a, b),
         Form::Multiply => multiply(a, b),

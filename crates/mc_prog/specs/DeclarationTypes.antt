@@ -17,7 +17,7 @@ use Rattle.mc_prog.specs.declared.typing.Said.{Said}
 use Rattle.mc_prog.specs.Said.{or_else}
 use Rattle.mc_prog.specs.PieceTypes.{statement, text_piece, fixed_of, is_factor, arguments_of, place_of, more_by}
 use Rattle.mc_prog.specs.ExpressionTypes.{all_fixed, greater, greatest_nest, most_arguments}
-use Rattle.mc_prog.specs.Declarations.{Declared, Built, undeclared, known_by, type_named, enumeration, bounds_of, arrays, record_type, field_type, constant_fault, fixed_entity, type_entity, type_in, local_fault, addresses_fault, address_of, with_variable, variable_entity, with_parameter, parameter_entity, parameter_fault, result_said, with_heading, heading_entity, heading_fault, with_ended, with_module, priority_fault}
+use Rattle.mc_prog.specs.Declarations.{Declared, Built, undeclared, known_by, type_named, enumeration, bounds_of, arrays, record_type, field_type, constant_fault, fixed_entity, type_entity, type_in, local_fault, local_type_fault, addresses_fault, address_of, with_variable, variable_entity, with_parameter, parameter_entity, parameter_fault, result_said, with_heading, heading_entity, heading_fault, with_ended, with_module, priority_fault}
 
 abbrev pub said_of_built : Built → Said
 said_of_built b = record { meaning = b.meaning; fault = b.fault }
@@ -57,13 +57,13 @@ declaration_piece known pieces typed d around place numbers parts (piece.Enumera
 declaration_piece known pieces typed d around place numbers parts piece.Range = bounds_of d.types (part typed numbers 0) (part typed numbers 1)
 declaration_piece known pieces typed d around place numbers parts piece.Array = said_of_built (arrays d.types place parts)
 declaration_piece known pieces typed d around place numbers parts piece.Record = said_of_built (record_type d.types place pieces typed numbers)
-declaration_piece known pieces typed d around place numbers parts (piece.FieldGroup names) = field_type d.types around.code_at (part typed numbers 0) (part typed numbers 0).meaning
+declaration_piece known pieces typed d around place numbers parts (piece.FieldGroup names) = field_type d.types (part typed numbers 0)
 declaration_piece known pieces typed d around place numbers parts (piece.Constant id) = statement (constant_fault (part typed numbers 0))
-declaration_piece known pieces typed d around place numbers parts (piece.TypeDeclaration id) = statement None
-declaration_piece known pieces typed d around place numbers parts (piece.Variable id) = statement (or_else (addresses_fault parts) (local_fault d.types around.code_at (part typed numbers 0) (type_in (part typed numbers 0).meaning)))
+declaration_piece known pieces typed d around place numbers parts (piece.TypeDeclaration id) = statement (local_type_fault around.code_at (part typed numbers 0))
+declaration_piece known pieces typed d around place numbers parts (piece.Variable id) = statement (or_else (addresses_fault parts) (local_fault d.types around.code_at (part typed numbers 0)))
 declaration_piece known pieces typed d around place numbers parts (piece.Parameter passing id) = statement (parameter_fault d.types id.place (type_in (part typed numbers 0).meaning))
 declaration_piece known pieces typed d around place numbers parts piece.ResultType = result_said d.types (part typed numbers 0) (part typed numbers 0).meaning
-declaration_piece known pieces typed d around place numbers parts (piece.Heading sort id) = statement (heading_fault d.types d.slots sort (part typed numbers 0))
+declaration_piece known pieces typed d around place numbers parts (piece.Heading sort id) = statement (heading_fault d.types d.wanted sort (part typed numbers 0))
 declaration_piece known pieces typed d around place numbers parts (piece.Ending sort id) = statement None
 declaration_piece known pieces typed d around place numbers parts (piece.Module sort id) = statement (priority_fault parts)
 declaration_piece known pieces typed d around place numbers parts piece.Running = text_piece known pieces typed around place numbers parts piece.Running

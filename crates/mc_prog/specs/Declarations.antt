@@ -128,18 +128,25 @@ pub record Built : Type 0 where
   pub fault : Option Fault
   pub types : List TypeInfo
 
-abbrev pub unbuilt : List TypeInfo → Option Fault → Built
-unbuilt types_ fault_ = record { meaning = (meaning.Unknown change.May); fault = fault_; types = types_ }
+-- What is left of a type where a written type with it has a fault: whether a signal was to stand there. Variables of
+-- signals, and of arrays of them, stand elsewhere than in procedures, processes and records; what is never declared is a
+-- record with a signal in it.
+abbrev pub left_of : Bool → Meaning
+left_of true = meaning.Unknown change.Elsewhere
+left_of false = meaning.Unknown change.May
+
+abbrev pub unbuilt : List TypeInfo → Meaning → Option Fault → Built
+unbuilt types_ m fault_ = record { meaning = m; fault = fault_; types = types_ }
 
 -- one more type, unless it is too large
 abbrev pub built : List TypeInfo → Place → TypeInfo → Built
 built types_ place info =
-    if nat_lt limit info.words then unbuilt types_ (at code.Y4 place)
+    if nat_lt limit info.words then unbuilt types_ (left_of info.holds_signal) (at code.Y4 place)
     else record { meaning = meaning.Type (length types_); fault = None; types = types_ ++ (info ∷ []) }
 
 abbrev pub enumeration : List TypeInfo → Place → ℕ → Built
 enumeration types_ place n =
-    if nat_lt limit n then unbuilt types_ (at code.Y4 place)
+    if nat_lt limit n then unbuilt types_ (meaning.Unknown change.May) (at code.Y4 place)
     else built types_ place (record { words = 1; shape = shape.Enumeration n; holds_signal = false })
 
 -- how many values stand from one word to another
@@ -153,14 +160,34 @@ array_info types_ t low high element = record {
   holds_signal = holds_signal types_ element;
 }
 
+-- what is left of the elements of an array with a fault
+abbrev pub spoiled : List TypeInfo → Meaning → Meaning
+spoiled types (meaning.Type t) = left_of (holds_signal types t)
+spoiled types (meaning.Unknown ch) = meaning.Unknown ch
+spoiled types meaning.Nothing = meaning.Unknown change.May
+spoiled types meaning.Faulty = meaning.Unknown change.May
+spoiled types meaning.NoValue = meaning.Unknown change.May
+spoiled types (meaning.Constant t w) = meaning.Unknown change.May
+spoiled types (meaning.Trap t) = meaning.Unknown change.May
+spoiled types (meaning.Value t) = meaning.Unknown change.May
+spoiled types (meaning.Text n p) = meaning.Unknown change.May
+spoiled types (meaning.Variable v) = meaning.Unknown change.May
+spoiled types (meaning.Bit c) = meaning.Unknown change.May
+spoiled types (meaning.Own c) = meaning.Unknown change.May
+spoiled types meaning.OwnBit = meaning.Unknown change.May
+spoiled types (meaning.Procedure c) = meaning.Unknown change.May
+spoiled types (meaning.Process n) = meaning.Unknown change.May
+spoiled types (meaning.Standard s) = meaning.Unknown change.May
+spoiled types (meaning.Bounds t l h) = meaning.Unknown change.May
+
 abbrev pub array_over : Place → Meaning → Built → Meaning → Built
 array_over place (meaning.Bounds t low high) inner (meaning.Type element) = built inner.types place (array_info inner.types t low high element)
-array_over place (meaning.Bounds t low high) inner other = unbuilt inner.types inner.fault
-array_over place other inner m = unbuilt inner.types inner.fault
+array_over place (meaning.Bounds t low high) inner other = unbuilt inner.types (spoiled inner.types other) inner.fault
+array_over place other inner m = unbuilt inner.types (spoiled inner.types m) inner.fault
 
 -- an array of arrays, for its ranges and the type of its elements
 abbrev pub arrays : List TypeInfo → Place → List Typed → Built
-arrays types_ place [] = unbuilt types_ None
+arrays types_ place [] = unbuilt types_ (meaning.Unknown change.May) None
 arrays types_ place (element ∷ []) = record { meaning = element.meaning; fault = None; types = types_ }
 arrays types_ place (range ∷ (next ∷ more)) =
     let inner : Built = arrays types_ place (next ∷ more) in
@@ -236,18 +263,38 @@ abbrev pub names_by : Option Piece → Option Ids
 names_by None = None
 names_by (Some p) = group_names p.construct
 
--- the fields of a record so far, their words, and whether one holds a signal
+-- whether a signal stands, or was to stand, in what a written type means
+abbrev pub has_signal : List TypeInfo → Meaning → Bool
+has_signal types (meaning.Type t) = holds_signal types t
+has_signal types (meaning.Unknown change.May) = false
+has_signal types (meaning.Unknown change.Never) = true
+has_signal types (meaning.Unknown change.Elsewhere) = true
+has_signal types meaning.Nothing = false
+has_signal types meaning.Faulty = false
+has_signal types meaning.NoValue = false
+has_signal types (meaning.Constant t w) = false
+has_signal types (meaning.Trap t) = false
+has_signal types (meaning.Value t) = false
+has_signal types (meaning.Text n p) = false
+has_signal types (meaning.Variable v) = false
+has_signal types (meaning.Bit c) = false
+has_signal types (meaning.Own c) = false
+has_signal types meaning.OwnBit = false
+has_signal types (meaning.Procedure c) = false
+has_signal types (meaning.Process n) = false
+has_signal types (meaning.Standard s) = false
+has_signal types (meaning.Bounds t l h) = false
+
+-- the fields of a record so far, and their words
 pub record Members : Type 0 where
   pub fields : List FieldInfo
   pub words : ℕ
-  pub signals : Bool
 
 -- one more field, of a type of so many words
 abbrev pub with_field : ℕ → ℕ → Id → Members → Members
 with_field t words_ id members = record {
   fields = members.fields ++ (record { name = id.text; type_of = t; offset = members.words } ∷ []);
   words = members.words + words_;
-  signals = members.signals;
 }
 
 abbrev pub with_more : ℕ → ℕ → List (After Id) → Members → Members
@@ -262,7 +309,7 @@ with_group types names t None = None
 with_group types None t (Some members) = None
 with_group types (Some names) None (Some members) = None
 with_group types (Some names) (Some t) (Some members) =
-    Some (with_fields t (words_of types t) names (record members { signals = members.signals || holds_signal types t }))
+    Some (with_fields t (words_of types t) names members)
 
 -- the fields of a record by its groups, where all their types are known
 abbrev pub members_of : List TypeInfo → List Piece → List Typed → Option Members → List ℕ → Option Members
@@ -271,34 +318,45 @@ members_of types pieces typed so_far (n ∷ groups) =
     members_of types pieces typed (with_group types (names_by (slice_get pieces n)) (type_in (typed_at typed n).meaning) so_far) groups
 
 abbrev pub record_by : List TypeInfo → Place → Option Members → Built
-record_by types place None = unbuilt types None
-record_by types place (Some members) =
-    if members.signals then unbuilt types (at code.Y1 place)
-    else built types place (record { words = members.words; shape = shape.Record members.fields; holds_signal = false })
+record_by types place None = unbuilt types (meaning.Unknown change.May) None
+record_by types place (Some members) = built types place (record { words = members.words; shape = shape.Record members.fields; holds_signal = false })
 
+-- whether one of these groups of fields has a signal
+abbrev pub any_signal : List TypeInfo → List Typed → List ℕ → Bool
+any_signal types typed [] = false
+any_signal types typed (n ∷ groups) = has_signal types (typed_at typed n).meaning || any_signal types typed groups
+
+-- A record with a signal is no type; the fault is that of the field.
 abbrev pub record_type : List TypeInfo → Place → List Piece → List Typed → List ℕ → Built
-record_type types place pieces typed groups = record_by types place (members_of types pieces typed (Some (record { fields = []; words = 0; signals = false })) groups)
+record_type types place pieces typed groups =
+    if any_signal types typed groups then unbuilt types (meaning.Unknown change.Never) None
+    else record_by types place (members_of types pieces typed (Some (record { fields = []; words = 0 })) groups)
 
--- A field's type holds no signal. In a procedure or a process that is a fault of the record.
-abbrev pub field_type : List TypeInfo → Option Place → Typed → Meaning → Said
-field_type types None typed_ (meaning.Type u) = if holds_signal types u then wrong (meaning.Unknown change.May) code.Y1 typed_.place else fine (meaning.Type u)
-field_type types (Some code_at) typed_ (meaning.Type u) = fine (meaning.Type u)
-field_type types code_at typed_ meaning.Nothing = fine (meaning.Unknown change.May)
-field_type types code_at typed_ meaning.Faulty = fine (meaning.Unknown change.May)
-field_type types code_at typed_ (meaning.Unknown ch) = fine (meaning.Unknown change.May)
-field_type types code_at typed_ meaning.NoValue = fine (meaning.Unknown change.May)
-field_type types code_at typed_ (meaning.Constant t w) = fine (meaning.Unknown change.May)
-field_type types code_at typed_ (meaning.Trap t) = fine (meaning.Unknown change.May)
-field_type types code_at typed_ (meaning.Value t) = fine (meaning.Unknown change.May)
-field_type types code_at typed_ (meaning.Text n p) = fine (meaning.Unknown change.May)
-field_type types code_at typed_ (meaning.Variable v) = fine (meaning.Unknown change.May)
-field_type types code_at typed_ (meaning.Bit c) = fine (meaning.Unknown change.May)
-field_type types code_at typed_ (meaning.Own c) = fine (meaning.Unknown change.May)
-field_type types code_at typed_ meaning.OwnBit = fine (meaning.Unknown change.May)
-field_type types code_at typed_ (meaning.Procedure c) = fine (meaning.Unknown change.May)
-field_type types code_at typed_ (meaning.Process n) = fine (meaning.Unknown change.May)
-field_type types code_at typed_ (meaning.Standard s) = fine (meaning.Unknown change.May)
-field_type types code_at typed_ (meaning.Bounds t l h) = fine (meaning.Unknown change.May)
+-- A field has no signal: its whole type is at fault.
+abbrev pub signal_fault : List TypeInfo → Place → Meaning → Option Fault
+signal_fault types place m = if has_signal types m then at code.Y1 place else None
+
+abbrev pub field_meaning : Meaning → Meaning
+field_meaning (meaning.Type t) = meaning.Type t
+field_meaning (meaning.Unknown ch) = meaning.Unknown ch
+field_meaning meaning.Nothing = meaning.Unknown change.May
+field_meaning meaning.Faulty = meaning.Unknown change.May
+field_meaning meaning.NoValue = meaning.Unknown change.May
+field_meaning (meaning.Constant t w) = meaning.Unknown change.May
+field_meaning (meaning.Trap t) = meaning.Unknown change.May
+field_meaning (meaning.Value t) = meaning.Unknown change.May
+field_meaning (meaning.Text n p) = meaning.Unknown change.May
+field_meaning (meaning.Variable v) = meaning.Unknown change.May
+field_meaning (meaning.Bit c) = meaning.Unknown change.May
+field_meaning (meaning.Own c) = meaning.Unknown change.May
+field_meaning meaning.OwnBit = meaning.Unknown change.May
+field_meaning (meaning.Procedure c) = meaning.Unknown change.May
+field_meaning (meaning.Process n) = meaning.Unknown change.May
+field_meaning (meaning.Standard s) = meaning.Unknown change.May
+field_meaning (meaning.Bounds t l h) = meaning.Unknown change.May
+
+abbrev pub field_type : List TypeInfo → Typed → Said
+field_type types t = record { meaning = field_meaning t.meaning; fault = signal_fault types t.place t.meaning }
 
 -- declarations
 
@@ -366,11 +424,37 @@ type_entity (meaning.Process n) = entity.Faulty
 type_entity (meaning.Standard s) = entity.Faulty
 type_entity (meaning.Bounds t l h) = entity.Faulty
 
--- a local variable holds no signal
-abbrev pub local_fault : List TypeInfo → Option Place → Typed → Option ℕ → Option Fault
-local_fault types None t u = None
-local_fault types (Some code_at) t None = None
-local_fault types (Some code_at) t (Some u) = if holds_signal types u then at code.Y1 t.place else None
+-- A local variable has no signal: its whole type is at fault.
+abbrev pub local_fault : List TypeInfo → Option Place → Typed → Option Fault
+local_fault types None t = None
+local_fault types (Some code_at) t = signal_fault types t.place t.meaning
+
+-- a record with a signal, or an array of such records
+abbrev pub is_never : Meaning → Bool
+is_never (meaning.Unknown change.May) = false
+is_never (meaning.Unknown change.Never) = true
+is_never (meaning.Unknown change.Elsewhere) = false
+is_never (meaning.Type t) = false
+is_never meaning.Nothing = false
+is_never meaning.Faulty = false
+is_never meaning.NoValue = false
+is_never (meaning.Constant t w) = false
+is_never (meaning.Trap t) = false
+is_never (meaning.Value t) = false
+is_never (meaning.Text n p) = false
+is_never (meaning.Variable v) = false
+is_never (meaning.Bit c) = false
+is_never (meaning.Own c) = false
+is_never meaning.OwnBit = false
+is_never (meaning.Procedure c) = false
+is_never (meaning.Process n) = false
+is_never (meaning.Standard s) = false
+is_never (meaning.Bounds t l h) = false
+
+-- A local type has no record with a signal: the whole of it is at fault. It may name a signal, or arrays of signals.
+abbrev pub local_type_fault : Option Place → Typed → Option Fault
+local_type_fault None t = None
+local_type_fault (Some code_at) t = if is_never t.meaning then at code.Y1 t.place else None
 
 -- the address of a variable, where it has one
 abbrev pub addresses_fault : List Typed → Option Fault
@@ -410,13 +494,13 @@ abbrev pub is_by_name : Passing → Bool
 is_by_name ByValue = false
 is_by_name ByName = true
 
-abbrev pub with_wanted : Passing → Option ℕ → Declared → Declared
-with_wanted p t d = record d { wanted = d.wanted ++ (record { type_of = t; by_name = is_by_name p } ∷ []) }
+abbrev pub with_wanted : Passing → Place → Option ℕ → Declared → Declared
+with_wanted p place t d = record d { wanted = d.wanted ++ (record { at = place; type_of = t; by_name = is_by_name p } ∷ []) }
 
 -- a parameter is taken also where its type is not known
 abbrev pub with_parameter : Passing → Place → Option ℕ → Declared → Declared
-with_parameter p place None d = with_wanted p None d
-with_parameter p place (Some t) d = with_slot (record { at = place; type_of = t; kind = slot_kind p; register = None }) (with_wanted p (Some t) d)
+with_parameter p place None d = with_wanted p place None d
+with_parameter p place (Some t) d = with_slot (record { at = place; type_of = t; kind = slot_kind p; register = None }) (with_wanted p place (Some t) d)
 
 abbrev pub parameter_entity : Passing → Option ℕ → Declared → Entity
 parameter_entity p None d = entity.Faulty
@@ -445,16 +529,18 @@ result_said types typed_ (meaning.Process n) = fine (meaning.Unknown change.May)
 result_said types typed_ (meaning.Standard s) = fine (meaning.Unknown change.May)
 result_said types typed_ (meaning.Bounds t l h) = fine (meaning.Unknown change.May)
 
-abbrev pub process_parameter : List TypeInfo → SlotKind → ℕ → Place → Option Fault
-process_parameter types slot.Variable t place = at code.Y6 place
-process_parameter types slot.Constant t place = if is_scalar types t then None else at code.Y6 place
-process_parameter types slot.Local t place = None
-process_parameter types slot.Result t place = None
+abbrev pub structured_fault : List TypeInfo → Place → Option ℕ → Option Fault
+structured_fault types place None = None
+structured_fault types place (Some t) = if is_scalar types t then None else at code.Y6 place
+
+-- `var` is a fault also where the type is not known.
+abbrev pub process_parameter : List TypeInfo → Wanted → Option Fault
+process_parameter types w = if w.by_name then at code.Y6 w.at else structured_fault types w.at w.type_of
 
 -- a process takes scalar constants alone
-abbrev pub process_fault : List TypeInfo → List Slot → Option Fault
+abbrev pub process_fault : List TypeInfo → List Wanted → Option Fault
 process_fault types [] = None
-process_fault types (s ∷ slots) = or_else (process_parameter types s.kind s.type_of s.at) (process_fault types slots)
+process_fault types (w ∷ wanted) = or_else (process_parameter types w) (process_fault types wanted)
 
 -- how many words parameters take, and local variables
 abbrev pub parameter_words : List TypeInfo → SlotKind → ℕ → ℕ
@@ -516,10 +602,10 @@ heading_entity piece.Procedure d = entity.Procedure (record { number = length d.
 heading_entity piece.Process d = entity.Process (length d.taken_by_processes)
 heading_entity piece.Driver d = entity.Process (length d.taken_by_processes)
 
-abbrev pub heading_fault : List TypeInfo → List Slot → CodeSort → Typed → Option Fault
-heading_fault types slots piece.Procedure vector_ = None
-heading_fault types slots piece.Process vector_ = process_fault types slots
-heading_fault types slots piece.Driver vector_ = address_fault vector_
+abbrev pub heading_fault : List TypeInfo → List Wanted → CodeSort → Typed → Option Fault
+heading_fault types wanted piece.Procedure vector_ = None
+heading_fault types wanted piece.Process vector_ = process_fault types wanted
+heading_fault types wanted piece.Driver vector_ = address_fault vector_
 
 abbrev pub kind_of : ModuleSort → ModuleKind
 kind_of PlainModule = kind.Plain

@@ -83,20 +83,21 @@ selected types base id (meaning.Standard s) = no_part base
 selected types base id (meaning.Type t) = no_part base
 selected types base id (meaning.Bounds t l h) = no_part base
 
--- A part of a designator with a fault in it; whether it may be changed is known where it is one of a variable.
+-- A part of a designator with a fault in it; whether it may be changed is known where it is one of a variable. A bit of a
+-- constant may not, and a bit of the function around stays one, whatever the index is.
 abbrev pub unknown : Meaning → Meaning
 unknown meaning.Nothing = meaning.Unknown change.May
 unknown meaning.Faulty = meaning.Unknown change.May
 unknown (meaning.Unknown ch) = meaning.Unknown change.May
 unknown meaning.NoValue = meaning.Unknown change.May
-unknown (meaning.Constant t w) = meaning.Unknown change.May
-unknown (meaning.Trap t) = meaning.Unknown change.May
-unknown (meaning.Value t) = meaning.Unknown change.May
+unknown (meaning.Constant t w) = meaning.Unknown change.Never
+unknown (meaning.Trap t) = meaning.Unknown change.Never
+unknown (meaning.Value t) = meaning.Unknown change.Never
 unknown (meaning.Text n p) = meaning.Unknown change.May
 unknown (meaning.Variable v) = meaning.Unknown v.change
 unknown (meaning.Bit c) = meaning.Unknown c
 unknown (meaning.Own c) = meaning.Unknown change.May
-unknown meaning.OwnBit = meaning.Unknown change.May
+unknown meaning.OwnBit = meaning.OwnBit
 unknown (meaning.Procedure c) = meaning.Unknown change.May
 unknown (meaning.Process n) = meaning.Unknown change.May
 unknown (meaning.Standard s) = meaning.Unknown change.May

@@ -62,9 +62,9 @@ abbrev pub declaration_in : List Naming → Place → Place
 declaration_in [] at_place = record { line = 0; column = 0 }
 declaration_in (n ∷ namings) at_place = if same_place n.at at_place then n.declared else declaration_in namings at_place
 
--- What is declared at a place. What is declared further behind has no meaning yet.
+-- What is declared at a place. What is declared further behind has no meaning yet: no type, and no value.
 abbrev pub entity_in : List (Place × Entity) → Place → Entity
-entity_in [] place = entity.Faulty
+entity_in [] place = entity.Ahead
 entity_in (e ∷ entities) place = if same_place e.0 place then e.1 else entity_in entities place
 
 abbrev pub is_nowhere : Place → Bool
@@ -100,6 +100,7 @@ stands_in modules (suc steps) inner outer =
 
 abbrev pub module_number : Entity → ℕ
 module_number (entity.Module m) = m
+module_number entity.Ahead = 0
 module_number entity.Faulty = 0
 module_number (entity.Constant t w) = 0
 module_number (entity.Type t) = 0
@@ -126,6 +127,7 @@ own_or own c answer.Nothing = meaning.Procedure c
 own_or own c (answer.Value t) = if own then meaning.Own c else meaning.Procedure c
 
 abbrev pub meaning_of : Known → Around → Place → Entity → Meaning
+meaning_of known around declared entity.Ahead = meaning.NoValue
 meaning_of known around declared entity.Faulty = (meaning.Unknown change.May)
 meaning_of known around declared (entity.Constant t w) = meaning.Constant t w
 meaning_of known around declared (entity.Type t) = meaning.Type t

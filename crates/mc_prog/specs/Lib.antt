@@ -6,7 +6,9 @@ pub mod Names
 pub mod Standard
 pub mod Scopes
 pub mod Namings
+pub mod NamingLaws
 pub mod First
+pub mod FirstLaws
 pub mod Program
 pub mod Pieces
 pub mod ExpressionPieces

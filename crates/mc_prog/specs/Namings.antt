@@ -6,7 +6,7 @@ use Rattle.mc_tree.specs.declared.tree.Tree.{Tree}
 use Rattle.mc_prog.specs.declared.scoped.Naming.{Naming}
 use Rattle.mc_prog.specs.Notes.{Item, Opens, Closes, Declares, Field, Knows, Lists, Defines, Uses, Ends}
 use Rattle.mc_prog.specs.Names.{names_of}
-use Rattle.mc_prog.specs.Scopes.{Scope, Named, Before, IsKnown, IsStandard, Is, named_in, own_by, near, innermost, outer, home, placed}
+use Rattle.mc_prog.specs.Scopes.{Scope, Named, Before, Of, IsMadeKnown, IsKnown, IsStandard, Is, named_in, near, innermost, outer, home, placed}
 
 -- the place of a standard name's declaration
 abbrev pub nowhere : Place
@@ -17,35 +17,25 @@ abbrev pub IsAt : Option Named → ℕ → List ℕ → Place → Type 0
 IsAt None scope name place = ⊥
 IsAt (Some n) scope name place = (n.scope ≡ scope) × (n.name.text ≡ name) × (n.name.place ≡ place)
 
--- a scope's own name, declared at this place
-abbrev pub IsOwnAt : Before → ℕ → List ℕ → Place → Type 0
-IsOwnAt [] scope name place = ⊥
-IsOwnAt (p ∷ before) scope name place = IsAt (own_by p.item p.around) scope name place ⊎ IsOwnAt before scope name place
-
--- of a scope, where there is one
-abbrev pub Of : Option ℕ → (ℕ → Type 0) → Type 0
-Of None P = ⊥
-Of (Some scope) P = P scope
-
 -- An item makes a name known in a scope, as what is declared at this place: a name of the module's use list as it is
--- known around the module, and one of a define list as the module's own.
-abbrev pub IsMadeKnown : (ℕ → Type 0) → (ℕ → Type 0) → Item → List Scope → ℕ → List ℕ → Place → Type 0
-IsMadeKnown KnownAround Own (Opens kind) around scope name place = ⊥
-IsMadeKnown KnownAround Own Closes around scope name place = ⊥
-IsMadeKnown KnownAround Own (Declares id) around scope name place = ⊥
-IsMadeKnown KnownAround Own (Field id) around scope name place = ⊥
-IsMadeKnown KnownAround Own (Knows id) around scope name place = IsAt (named_in (home around) id) scope name place
-IsMadeKnown KnownAround Own (Lists id) around scope name place = Is (named_in (innermost around) id) scope name × Of (innermost (outer around)) KnownAround
-IsMadeKnown KnownAround Own (Defines id) around scope name place = Is (named_in (innermost (outer around)) id) scope name × Of (innermost around) Own
-IsMadeKnown KnownAround Own (Uses id) around scope name place = ⊥
-IsMadeKnown KnownAround Own (Ends id end) around scope name place = ⊥
+-- known around the module, and one of a define list as it is known in the module.
+abbrev pub IsMadeKnownAt : (ℕ → Type 0) → Item → List Scope → ℕ → List ℕ → Place → Type 0
+IsMadeKnownAt KnownIn (Opens kind) around scope name place = ⊥
+IsMadeKnownAt KnownIn Closes around scope name place = ⊥
+IsMadeKnownAt KnownIn (Declares id) around scope name place = ⊥
+IsMadeKnownAt KnownIn (Field id) around scope name place = ⊥
+IsMadeKnownAt KnownIn (Knows id) around scope name place = IsAt (named_in (home around) id) scope name place
+IsMadeKnownAt KnownIn (Lists id) around scope name place = Is (named_in (innermost around) id) scope name × Of (innermost (outer around)) KnownIn
+IsMadeKnownAt KnownIn (Defines id) around scope name place = Is (named_in (innermost (outer around)) id) scope name × Of (innermost around) KnownIn
+IsMadeKnownAt KnownIn (Uses id) around scope name place = ⊥
+IsMadeKnownAt KnownIn (Ends id end) around scope name place = ⊥
 
--- a name is known in a scope, as what is declared at this place
+-- A name is known in a scope, as what is declared at this place: the latest that makes it known there decides.
 abbrev pub IsKnownAt : Before → ℕ → List ℕ → Place → Type 0
 IsKnownAt [] scope name place = ⊥
 IsKnownAt (p ∷ before) scope name place =
-    IsMadeKnown (λ (around : ℕ). IsKnownAt before around name place) (λ (module_ : ℕ). IsOwnAt before module_ name place) p.item p.around scope name place
-    ⊎ IsKnownAt before scope name place
+    IsMadeKnownAt (λ (s : ℕ). IsKnownAt before s name place) p.item p.around scope name place
+    ⊎ ((IsMadeKnown (λ (s : ℕ). IsKnown before s name) p.item p.around scope name → ⊥) × IsKnownAt before scope name place)
 
 -- A name is found in the first of these scopes where it is known, or it is a standard name.
 abbrev pub IsFoundIn : Before → List ℕ → List ℕ → Place → Type 0

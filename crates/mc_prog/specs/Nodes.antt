@@ -47,6 +47,7 @@ abbrev pub own_form : List CodeInfo → Bool → Callable → Option Form
 own_form procedures own c = if own then Some (form.Slot (result_slot procedures c.number)) else None
 
 abbrev pub entity_form : List CodeInfo → Bool → Entity → Option Form
+entity_form procedures own entity.Ahead = None
 entity_form procedures own entity.Faulty = None
 entity_form procedures own (entity.Constant t w) = Some (form.Constant w)
 entity_form procedures own (entity.Type t) = None

@@ -3,14 +3,13 @@
 use Rattle.std.specs.Prelude.{ℕ, ◌==◌, ◌-◌, List, Option, Some, None, Bool, false, ◌&&◌, if◌then◌else◌, bit_and, bit_or, bit_xor}
 use Rattle.mc_tree.specs.declared.fault.Code.TheVariants as code
 use Rattle.mc_tree.specs.declared.fault.Fault.{Fault}
-use Rattle.mc_tree.specs.declared.expression.Relation.{Relation}
 use Rattle.mc_tree.specs.declared.expression.Sign.{Sign}
 use Rattle.mc_tree.specs.declared.expression.Sign.TheVariants as sign
 use Rattle.mc_prog.specs.declared.program.TypeInfo.{TypeInfo}
 use Rattle.mc_prog.specs.declared.typing.Meaning.{Meaning}
 use Rattle.mc_prog.specs.declared.typing.Meaning.TheVariants as meaning
 use Rattle.mc_prog.specs.declared.typing.Typed.{Typed}
-use Rattle.mc_prog.specs.Values.{Outcome, Gives, Traps, added, subtracted, multiplied, negated, divided, remainder, holds_of_integers, holds_of_words, truth}
+use Rattle.mc_prog.specs.Values.{Outcome, Gives, Traps, added, subtracted, multiplied, negated, divided, remainder, holds, truth}
 use Rattle.mc_prog.specs.declared.typing.Allowed.TheVariants as allowed
 use Rattle.mc_prog.specs.declared.typing.Operator.{Operator}
 use Rattle.mc_prog.specs.declared.typing.Operator.TheVariants as operator
@@ -30,16 +29,14 @@ gives operator.Or t = t
 gives operator.Xor t = t
 gives (operator.Compare r) t = boolean
 
--- of two operands that differ, the right one has the fault
-abbrev pub same_by : List TypeInfo → Typed → Option ℕ → Option Fault
-same_by types right None = None
-same_by types right (Some t) = wants_type types t code.Y1 right
+-- Of two operands that differ, the right one has the fault. Where the left one's type is not known, the right one's is one
+-- that the operator takes.
+abbrev pub same_by : List TypeInfo → Operator → Typed → Option ℕ → Option Fault
+same_by types o right None = wants types (allowed.Operand o) code.Y1 right
+same_by types o right (Some t) = wants_type types t code.Y1 right
 
 abbrev pub operands_fault : List TypeInfo → Operator → Typed → Typed → Option Fault
-operands_fault types o left right = or_else (wants types (allowed.Operand o) code.Y1 left) (same_by types right (type_of left.meaning))
-
-abbrev pub holds : ℕ → Relation → ℕ → ℕ → Bool
-holds t r a b = if t == integer then holds_of_integers r a b else holds_of_words r a b
+operands_fault types o left right = or_else (wants types (allowed.Operand o) code.Y1 left) (same_by types o right (type_of left.meaning))
 
 -- what the operator gives of two words of a type
 abbrev pub computed : Operator → ℕ → ℕ → ℕ → Outcome
@@ -51,7 +48,7 @@ computed operator.Modulo t a b = remainder a b
 computed operator.And t a b = Gives (bit_and a b)
 computed operator.Or t a b = Gives (bit_or a b)
 computed operator.Xor t a b = Gives (bit_xor a b)
-computed (operator.Compare r) t a b = Gives (truth (holds t r a b))
+computed (operator.Compare r) t a b = Gives (truth (holds r a b))
 
 abbrev pub constant_by : ℕ → Outcome → Meaning
 constant_by t (Gives w) = meaning.Constant t w

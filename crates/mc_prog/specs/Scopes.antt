@@ -121,7 +121,7 @@ own_by (Defines name) around = None
 own_by (Uses name) around = None
 own_by (Ends name end) around = None
 
--- what comes to be known in a scope
+-- where a name comes to be known, if it does
 abbrev pub known_by : Item → List Scope → Option Named
 known_by (Opens kind) around = None
 known_by Closes around = None
@@ -147,9 +147,30 @@ abbrev pub IsOwn : Before → ℕ → List ℕ → Type 0
 IsOwn [] scope name = ⊥
 IsOwn (p ∷ before) scope name = Is (own_by p.item p.around) scope name ⊎ IsOwn before scope name
 
+-- of a scope, where there is one
+abbrev pub Of : Option ℕ → (ℕ → Type 0) → Type 0
+Of None P = ⊥
+Of (Some scope) P = P scope
+
+-- A module lets out what it knows itself alone: a name of its define list that is a module's stays unknown around it.
+abbrev pub IsLetOut : (ℕ → Type 0) → Item → List Scope → Type 0
+IsLetOut KnownIn (Opens kind) around = Unit {0}
+IsLetOut KnownIn Closes around = Unit {0}
+IsLetOut KnownIn (Declares name) around = Unit {0}
+IsLetOut KnownIn (Field name) around = Unit {0}
+IsLetOut KnownIn (Knows name) around = Unit {0}
+IsLetOut KnownIn (Lists name) around = Unit {0}
+IsLetOut KnownIn (Defines name) around = Of (innermost around) KnownIn
+IsLetOut KnownIn (Uses name) around = Unit {0}
+IsLetOut KnownIn (Ends name end) around = Unit {0}
+
+-- an item makes a name known in a scope, by where it was known before
+abbrev pub IsMadeKnown : (ℕ → Type 0) → Item → List Scope → ℕ → List ℕ → Type 0
+IsMadeKnown KnownIn item around scope name = Is (known_by item around) scope name × IsLetOut KnownIn item around
+
 abbrev pub IsKnown : Before → ℕ → List ℕ → Type 0
 IsKnown [] scope name = ⊥
-IsKnown (p ∷ before) scope name = Is (known_by p.item p.around) scope name ⊎ IsKnown before scope name
+IsKnown (p ∷ before) scope name = IsMadeKnown (λ (s : ℕ). IsKnown before s name) p.item p.around scope name ⊎ IsKnown before scope name
 
 -- it is known in one of these scopes
 abbrev pub IsKnownIn : Before → List ℕ → List ℕ → Type 0

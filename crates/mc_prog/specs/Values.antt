@@ -52,22 +52,14 @@ remainder a b = remainder_by a b (divided a b)
 abbrev pub character : ℕ → Outcome
 character w = if nat_lt 255 w then Traps range else Gives w
 
--- Whether a relation holds of two integers, and of two other values, which are compared by their words.
-abbrev pub holds_of_integers : Relation → ℕ → ℕ → Bool
-holds_of_integers Equal a b = a == b
-holds_of_integers Unequal a b = not (a == b)
-holds_of_integers Less a b = int_lt (signed_of a) (signed_of b)
-holds_of_integers LessEqual a b = not (int_lt (signed_of b) (signed_of a))
-holds_of_integers Greater a b = int_lt (signed_of b) (signed_of a)
-holds_of_integers GreaterEqual a b = not (int_lt (signed_of a) (signed_of b))
-
-abbrev pub holds_of_words : Relation → ℕ → ℕ → Bool
-holds_of_words Equal a b = a == b
-holds_of_words Unequal a b = not (a == b)
-holds_of_words Less a b = nat_lt a b
-holds_of_words LessEqual a b = not (nat_lt b a)
-holds_of_words Greater a b = nat_lt b a
-holds_of_words GreaterEqual a b = not (nat_lt a b)
+-- Whether a relation holds of two scalars, which are compared by the integers that their words stand for, whatever their type.
+abbrev pub holds : Relation → ℕ → ℕ → Bool
+holds Equal a b = a == b
+holds Unequal a b = not (a == b)
+holds Less a b = int_lt (signed_of a) (signed_of b)
+holds LessEqual a b = not (int_lt (signed_of b) (signed_of a))
+holds Greater a b = int_lt (signed_of b) (signed_of a)
+holds GreaterEqual a b = not (int_lt (signed_of a) (signed_of b))
 
 -- the word of a truth
 abbrev pub truth : Bool → ℕ

@@ -55,6 +55,8 @@ pub enum Answer {
 /// What a declared name stands for.
 #[derive(Clone, Copy, PartialEq, Eq, Debug)]
 pub enum Entity {
+    /// What is declared further behind.
+    Ahead,
     /// A declaration with a fault.
     Faulty,
     /// A constant, by its type and its word.
@@ -77,7 +79,9 @@ pub enum Meaning {
     Nothing,
     /// An expression with a fault in it.
     Faulty,
-    /// A designator with a fault in it, and whether its variable may be changed.
+    /// A designator with a fault in it, and whether its variable may be changed. Of a written type with a fault in it
+    /// this says whether variables of it could be declared: `Elsewhere` than in procedures, processes and records, where
+    /// it is an array of signals, and `Never` where it is or holds a record with a signal.
     Unknown(Change),
     /// A name that is no value where it stands alone.
     NoValue,
@@ -136,6 +140,8 @@ pub enum Allowed {
 /// What a procedure or a process takes in one place.
 #[derive(Clone, Copy, PartialEq, Eq, Debug)]
 pub struct Wanted {
+    /// The parameter.
+    pub at: Place,
     /// Not known where its declaration has a fault.
     pub type_of: Option<u32>,
     /// Whether it takes a variable, and not a value.

@@ -1,7 +1,7 @@
 // The rules of evaluation for single values. A value is a word; an integer is the number that its word stands for.
 
 ghost use Rattle.std.specs.Prelude.{◌≡◌, MatchResult};
-ghost use Rattle.mc_prog.specs.Values.{Gives, Traps, added, subtracted, multiplied, negated, divided, remainder, character, integer, holds_of_integers, holds_of_words};
+ghost use Rattle.mc_prog.specs.Values.{Gives, Traps, added, subtracted, multiplied, negated, divided, remainder, character, holds, integer};
 ghost use Rattle.mc_prog.specs.Traps.{number_of};
 
 use mc_tree::expression::Relation;
@@ -85,25 +85,11 @@ pub fn modulo(a: Word, b: Word) -> Result<Word, Trap>
     integer(i32::from(signed(a)) % i32::from(signed(b)))
 }
 
-/// Whether a relation holds of two integers.
-pub fn holds_of_integers(relation: Relation, a: Word, b: Word) -> bool
-    ensures { result ≡ holds_of_integers relation a b }
+/// Whether a relation holds of two scalars, which are compared by the integers that their words stand for.
+pub fn holds(relation: Relation, a: Word, b: Word) -> bool
+    ensures { result ≡ holds relation a b }
 {
     let (a, b) = (signed(a), signed(b));
-    match relation {
-        Relation::Equal => a == b,
-        Relation::Unequal => a != b,
-        Relation::Less => a < b,
-        Relation::LessEqual => a <= b,
-        Relation::Greater => a > b,
-        Relation::GreaterEqual => a >= b,
-    }
-}
-
-/// Whether a relation holds of two values of another type, which are compared by their words.
-pub fn holds_of_words(relation: Relation, a: Word, b: Word) -> bool
-    ensures { result ≡ holds_of_words relation a b }
-{
     match relation {
         Relation::Equal => a == b,
         Relation::Unequal => a != b,

@@ -5,3 +5,4 @@ pub mod digits;
 pub mod ending;
 pub mod lines;
 pub mod pieces;
+pub mod ring;

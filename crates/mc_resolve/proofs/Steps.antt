@@ -8,15 +8,15 @@ use Rattle.mc_tree.specs.declared.tree.Id.{Id}
 use Rattle.mc_prog.specs.declared.scoped.Naming.{Naming}
 use Rattle.mc_prog.specs.First.{IsNotAfter, IsEarlier, IsEarlierOf}
 use Rattle.mc_prog.specs.Notes.{Item, Opens, Closes, Declares, Field, Knows, Lists, Defines, Uses, Ends}
-use Rattle.mc_prog.specs.Scopes.{Before, Named, scopes, scopes_behind, near, far, home, innermost, outer, named_in, declared_by, own_by, known_by, Is, IsDeclared, IsOwn, IsOwnOf, IsKnown, IsKnownOf, IsKnownIn, IsStandard, IsTwice, IsUnknown, IsFurther, IsFaultOf, HasFault, fault}
+use Rattle.mc_prog.specs.Scopes.{Before, Named, scopes, scopes_behind, near, far, home, innermost, outer, named_in, declared_by, own_by, known_by, Is, Of, IsMadeKnown, IsDeclared, IsOwn, IsKnown, IsKnownOf, IsKnownIn, IsStandard, IsTwice, IsUnknown, IsFurther, IsFaultOf, HasFault, fault}
 use Rattle.mc_prog.specs.Standard.{is_standard}
-use Rattle.mc_prog.specs.Namings.{nowhere, IsAt, IsOwnAt, IsKnownAt, IsFoundIn, AreNamings, Of}
+use Rattle.mc_prog.specs.Namings.{nowhere, IsAt, IsKnownAt, IsFoundIn, AreNamings}
 use Rattle.mc_resolve.specs.Around.{around}
-use Rattle.mc_resolve.specs.Table.{found_in, found_of, first_found, is_named, own_place, known_place}
+use Rattle.mc_resolve.specs.Table.{found_in, found_of, first_found, is_named, own_place, if_there, made_known, known_place}
 use Rattle.mc_resolve.specs.Uses.{naming_of}
 use Rattle.mc_resolve.specs.Stands.{IsTableOf, IsLeastOf, Stands, with_item, IsKnownPlace}
 use Rattle.mc_resolve.specs.declared.resolver.Resolver.{Resolver}
-use Rattle.mc_resolve.proofs.Found.{false-true, has-none, has-some, known-none, known-some, none-found, some-found, standard-found}
+use Rattle.mc_resolve.proofs.Found.{false-true, known-none, known-some, none-found, some-found, standard-found}
 use Rattle.mc_resolve.proofs.Tables.{table-step}
 
 -- The order of faults.
@@ -76,6 +76,10 @@ standard-fault : (before : Before) (o : Option ℕ) (name : Id) (s : ℕ) (x : L
 standard-fault before None name s x k standard = k
 standard-fault before (Some scope) name s x k standard = (inr standard, refl)
 
+of-known : (before : Before) (o : Option ℕ) (x : List ℕ) → Of o (λ (a : ℕ). IsKnown before a x) → IsKnownOf before o x
+of-known before None x k = k
+of-known before (Some a) x k = k
+
 -- a name that is found in the table of known names, without faults so far
 known-of : (before : Before) (r : Resolver) → Stands before r → r.fault ≡ None → (o : Option ℕ) (x : List ℕ) → ((IsKnownOf before o x → ⊥) → ⊥) → Of o (λ (a : ℕ). IsKnownAt before a x (unwrap_or (found_of r.known.places o x) nowhere))
 known-of before r st n None x k = absurd (k (λ h. h))
@@ -85,34 +89,71 @@ known-of before r st n (Some a) x k = by (found_in r.known.places a x) refl
     by None e = absurd (k (known-none before r st a x e))
     by (Some p) e = subst (λ (o : Option Place). IsKnownAt before a x (unwrap_or o nowhere)) (sym e) ((known-some before r st a x p e).1 n)
 
-own-of : (before : Before) (r : Resolver) → Stands before r → (o : Option ℕ) (x : List ℕ) → ((IsOwnOf before o x → ⊥) → ⊥) → Of o (λ (m : ℕ). IsOwnAt before m x (unwrap_or (found_of r.own.places o x) nowhere))
-own-of before r st None x k = absurd (k (λ h. h))
-own-of before r st (Some m) x k = by (found_in r.own.places m x) refl
+-- What the tables say that an item makes known, it makes known, and nothing else.
+there-of : (before : Before) (r : Resolver) → Stands before r → (o : Option ℕ) (n : Option Named) (y : List ℕ) (s : ℕ) (x : List ℕ) → Is (if_there (found_of r.known.places o y) n) s x → Is n s x × Of o (λ (a : ℕ). IsKnown before a y)
+there-of before r st None n y s x k = absurd k
+there-of before r st (Some a) n y s x k = by (found_in r.known.places a y) refl k
   where
-    by : (q : Option Place) → found_in r.own.places m x ≡ q → IsOwnAt before m x (unwrap_or (found_in r.own.places m x) nowhere)
-    by None e = absurd (k (has-none (IsOwn before) (λ s y p. IsOwn before s y × IsOwnAt before s y p) r.own.places st.own m x e))
-    by (Some p) e = subst (λ (o : Option Place). IsOwnAt before m x (unwrap_or o nowhere)) (sym e) (has-some (IsOwn before) (λ s y p. IsOwn before s y × IsOwnAt before s y p) r.own.places st.own m x p e).1
+    by : (q : Option Place) → found_in r.known.places a y ≡ q → Is (if_there q n) s x → Is n s x × IsKnown before a y
+    by None e h = absurd h
+    by (Some p) e h = (h, (known-some before r st a y p e).0)
+
+of-there : (before : Before) (r : Resolver) → Stands before r → (o : Option ℕ) (n : Option Named) (y : List ℕ) (s : ℕ) (x : List ℕ) → Is n s x → Of o (λ (a : ℕ). IsKnown before a y) → Is (if_there (found_of r.known.places o y) n) s x
+of-there before r st None n y s x k h = absurd h
+of-there before r st (Some a) n y s x k h = by (found_in r.known.places a y) refl
+  where
+    by : (q : Option Place) → found_in r.known.places a y ≡ q → Is (if_there (found_in r.known.places a y) n) s x
+    by None e = absurd (known-none before r st a y e h)
+    by (Some p) e = subst (λ (q : Option Place). Is (if_there q n) s x) (sym e) k
+
+made-known : (before : Before) (r : Resolver) → Stands before r → (item : Item) (s : ℕ) (x : List ℕ) → Is (made_known r.known.places (scopes before) item) s x → IsMadeKnown (λ (a : ℕ). IsKnown before a x) item (scopes before) s x
+made-known before r st (Opens kind) s x k = absurd k
+made-known before r st Closes s x k = absurd k
+made-known before r st (Declares name) s x k = absurd k
+made-known before r st (Field name) s x k = absurd k
+made-known before r st (Knows name) s x k = (k, tt)
+made-known before r st (Lists name) s x k = (k, tt)
+made-known before r st (Defines name) s x k =
+    let there = there-of before r st (innermost (scopes before)) (known_by (Defines name) (scopes before)) name.text s x k in
+    (there.0, subst (λ (y : List ℕ). Of (innermost (scopes before)) (λ (a : ℕ). IsKnown before a y)) (named-text (innermost (outer (scopes before))) name s x there.0) there.1)
+made-known before r st (Uses name) s x k = absurd k
+made-known before r st (Ends name end) s x k = absurd k
+
+known-made : (before : Before) (r : Resolver) → Stands before r → (item : Item) (s : ℕ) (x : List ℕ) → IsMadeKnown (λ (a : ℕ). IsKnown before a x) item (scopes before) s x → Is (made_known r.known.places (scopes before) item) s x
+known-made before r st (Opens kind) s x k = k.0
+known-made before r st Closes s x k = k.0
+known-made before r st (Declares name) s x k = k.0
+known-made before r st (Field name) s x k = k.0
+known-made before r st (Knows name) s x k = k.0
+known-made before r st (Lists name) s x k = k.0
+known-made before r st (Defines name) s x k =
+    of-there before r st (innermost (scopes before)) (known_by (Defines name) (scopes before)) name.text s x k.0
+    (subst (λ (y : List ℕ). Of (innermost (scopes before)) (λ (a : ℕ). IsKnown before a y)) (sym (named-text (innermost (outer (scopes before))) name s x k.0)) k.1)
+known-made before r st (Uses name) s x k = k.0
+known-made before r st (Ends name end) s x k = k.0
 
 -- The place of what comes to be known by an item without faults.
-known-place : (before : Before) (r : Resolver) → Stands before r → r.fault ≡ None → (item : Item) → ((f : Fault) → IsFaultOf before (scopes before) item f → ⊥) → IsKnownPlace before item (known_place r.known.places r.own.places (scopes before) item)
-known-place before r st n (Opens kind) h s x k = k
-known-place before r st n Closes h s x k = k
-known-place before r st n (Declares name) h s x k = k
-known-place before r st n (Field name) h s x k = k
-known-place before r st n (Knows name) h s x k = named-at (home (scopes before)) name s x k
+known-place : (before : Before) (r : Resolver) → Stands before r → r.fault ≡ None → (item : Item) → ((f : Fault) → IsFaultOf before (scopes before) item f → ⊥) → IsKnownPlace before item (known_place r.known.places (scopes before) item)
+known-place before r st n (Opens kind) h s x k = k.0
+known-place before r st n Closes h s x k = k.0
+known-place before r st n (Declares name) h s x k = k.0
+known-place before r st n (Field name) h s x k = k.0
+known-place before r st n (Knows name) h s x k = named-at (home (scopes before)) name s x k.0
 known-place before r st n (Lists name) h s x k =
     let around_ = innermost (outer (scopes before)) in
     let place = unwrap_or (found_of r.known.places around_ name.text) nowhere in
-    let standard : IsStandard name.text → ⊥ = λ t. h (fault code.S2 name) (inr (standard-fault before (innermost (scopes before)) name s x k t)) in
+    let standard : IsStandard name.text → ⊥ = λ t. h (fault code.S2 name) (inr (standard-fault before (innermost (scopes before)) name s x k.0 t)) in
     let found = known-of before r st n around_ name.text (λ u. h (fault code.S1 name) (inl (u, standard, refl))) in
-    (k, subst (λ (y : List ℕ). Of around_ (λ (a : ℕ). IsKnownAt before a y place)) (named-text (innermost (scopes before)) name s x k) found)
+    (k.0, subst (λ (y : List ℕ). Of around_ (λ (a : ℕ). IsKnownAt before a y place)) (named-text (innermost (scopes before)) name s x k.0) found)
 known-place before r st n (Defines name) h s x k =
     let within = innermost (scopes before) in
-    let place = unwrap_or (found_of r.own.places within name.text) nowhere in
-    let found = own-of before r st within name.text (λ u. h (fault code.S3 name) (inr (u, refl))) in
-    (k, subst (λ (y : List ℕ). Of within (λ (m : ℕ). IsOwnAt before m y place)) (named-text (innermost (outer (scopes before))) name s x k) found)
-known-place before r st n (Uses name) h s x k = k
-known-place before r st n (Ends name end) h s x k = k
+    let place = unwrap_or (found_of r.known.places within name.text) nowhere in
+    let same = named-text (innermost (outer (scopes before))) name s x k.0 in
+    let known = subst (λ (y : List ℕ). Of within (λ (a : ℕ). IsKnown before a y)) (sym same) k.1 in
+    let found = known-of before r st n within name.text (λ u. u (of-known before within name.text known)) in
+    (k.0, subst (λ (y : List ℕ). Of within (λ (a : ℕ). IsKnownAt before a y place)) same found)
+known-place before r st n (Uses name) h s x k = k.0
+known-place before r st n (Ends name end) h s x k = k.0
 
 append-none : (xs : List Naming) → xs ++ [] ≡ xs
 append-none [] = refl
@@ -158,27 +199,27 @@ declared-step before r r' st item e =
     (declared_by item (scopes before)) (own_place (declared_by item (scopes before))) e
     (λ s x k. weaken (own_place (declared_by item (scopes before))) ⊥ (IsDeclared (with_item item before) s x → ⊥) (λ p. Is (declared_by item (scopes before)) s x × IsAt (declared_by item (scopes before)) s x p) (λ p. IsDeclared (with_item item before) s x) (named-declared (declared_by item (scopes before)) s x ⊥ k) (λ f. absurd f) (λ p a. inl a.0))
     (λ s x no k. ⊎_elim (λ a. absurd (no a)) (λ a. a) k)
-    (λ s x p k. inr k)
+    (λ s x p no k. inr k)
 
 own-step : (before : Before) (r r' : Resolver) → Stands before r → (item : Item)
     → ((s : ℕ) (x : List ℕ) → found_in r'.own.places s x ≡ cond (is_named (own_by item (scopes before)) s x) (own_place (own_by item (scopes before))) (found_in r.own.places s x))
-    → IsTableOf (IsOwn (with_item item before)) (λ s x p. IsOwn (with_item item before) s x × IsOwnAt (with_item item before) s x p) r'.own.places
+    → IsTableOf (IsOwn (with_item item before)) (λ s x p. IsOwn (with_item item before) s x) r'.own.places
 own-step before r r' st item e =
-    table-step (IsOwn before) (IsOwn (with_item item before)) (λ s x p. IsOwn before s x × IsOwnAt before s x p) (λ s x p. IsOwn (with_item item before) s x × IsOwnAt (with_item item before) s x p) r.own.places r'.own.places st.own
+    table-step (IsOwn before) (IsOwn (with_item item before)) (λ s x p. IsOwn before s x) (λ s x p. IsOwn (with_item item before) s x) r.own.places r'.own.places st.own
     (own_by item (scopes before)) (own_place (own_by item (scopes before))) e
-    (λ s x k. weaken (own_place (own_by item (scopes before))) ⊥ (IsOwn (with_item item before) s x → ⊥) (λ p. Is (own_by item (scopes before)) s x × IsAt (own_by item (scopes before)) s x p) (λ p. IsOwn (with_item item before) s x × IsOwnAt (with_item item before) s x p) (named-declared (own_by item (scopes before)) s x ⊥ k) (λ f. absurd f) (λ p a. (inl a.0, inl a.1)))
+    (λ s x k. weaken (own_place (own_by item (scopes before))) ⊥ (IsOwn (with_item item before) s x → ⊥) (λ p. Is (own_by item (scopes before)) s x × IsAt (own_by item (scopes before)) s x p) (λ p. IsOwn (with_item item before) s x) (named-declared (own_by item (scopes before)) s x ⊥ k) (λ f. absurd f) (λ p a. inl a.0))
     (λ s x no k. ⊎_elim (λ a. absurd (no a)) (λ a. a) k)
-    (λ s x p k. (inr k.0, inr k.1))
+    (λ s x p no k. inr k)
 
 known-step : (before : Before) (r r' : Resolver) → Stands before r → (item : Item) (place : Place) → (r'.fault ≡ None → (r.fault ≡ None) × IsKnownPlace before item place)
-    → ((s : ℕ) (x : List ℕ) → found_in r'.known.places s x ≡ cond (is_named (known_by item (scopes before)) s x) (Some place) (found_in r.known.places s x))
+    → ((s : ℕ) (x : List ℕ) → found_in r'.known.places s x ≡ cond (is_named (made_known r.known.places (scopes before) item) s x) (Some place) (found_in r.known.places s x))
     → IsTableOf (IsKnown (with_item item before)) (λ s x p. IsKnown (with_item item before) s x × (r'.fault ≡ None → IsKnownAt (with_item item before) s x p)) r'.known.places
 known-step before r r' st item place good e =
     table-step (IsKnown before) (IsKnown (with_item item before)) (λ s x p. IsKnown before s x × (r.fault ≡ None → IsKnownAt before s x p)) (λ s x p. IsKnown (with_item item before) s x × (r'.fault ≡ None → IsKnownAt (with_item item before) s x p)) r.known.places r'.known.places st.known
-    (known_by item (scopes before)) (Some place) e
-    (λ s x k. (inl k, λ n. inl ((good n).1 s x k)))
-    (λ s x no k. ⊎_elim (λ a. absurd (no a)) (λ a. a) k)
-    (λ s x p k. (inr k.0, λ n. inr (k.1 (good n).0)))
+    (made_known r.known.places (scopes before) item) (Some place) e
+    (λ s x k. let made = made-known before r st item s x k in (inl made, λ n. inl ((good n).1 s x made)))
+    (λ s x no k. ⊎_elim (λ a. absurd (no (known-made before r st item s x a))) (λ a. a) k)
+    (λ s x p no k. (inr k.0, λ n. inr (λ a. no (known-made before r st item s x a), k.1 (good n).0)))
 
 -- One more item.
 pub step-stands : (before : Before) (r r' : Resolver) → Stands before r → (item : Item) (number : ℕ) → number ≡ length before
@@ -186,7 +227,7 @@ pub step-stands : (before : Before) (r r' : Resolver) → Stands before r → (i
     → r'.names.items ≡ r.names.items ++ naming_of r.known.places (around r.scopes.items) item
     → (d : Option Named) → d ≡ declared_by item (around r.scopes.items) → ((s : ℕ) (x : List ℕ) → found_in r'.declared.places s x ≡ cond (is_named d s x) (own_place d) (found_in r.declared.places s x))
     → (o : Option Named) → o ≡ own_by item (around r.scopes.items) → ((s : ℕ) (x : List ℕ) → found_in r'.own.places s x ≡ cond (is_named o s x) (own_place o) (found_in r.own.places s x))
-    → (k : Option Named) → k ≡ known_by item (around r.scopes.items) → (place : Place) → place ≡ known_place r.known.places r.own.places (around r.scopes.items) item
+    → (k : Option Named) → k ≡ made_known r.known.places (around r.scopes.items) item → (place : Place) → place ≡ known_place r.known.places (around r.scopes.items) item
     → ((s : ℕ) (x : List ℕ) → found_in r'.known.places s x ≡ cond (is_named k s x) (Some place) (found_in r.known.places s x))
     → around r'.scopes.items ≡ scopes_behind number item (around r.scopes.items)
     → Stands (with_item item before) r'
@@ -194,12 +235,12 @@ step-stands before r r' st item number count f least earliest names d de dt o oe
     let same = st.scopes_are in
     let good : r'.fault ≡ None → (r.fault ≡ None) × ((g : Fault) → IsFaultOf before (scopes before) item g → ⊥) = λ n. let both = neither r.fault f r'.fault earliest n in (both.0, no-fault (IsFaultOf before (scopes before) item) f least both.1) in
     let place_is : r'.fault ≡ None → (r.fault ≡ None) × IsKnownPlace before item place =
-    λ n. ((good n).0, subst (λ (p : Place). IsKnownPlace before item p) (sym (pe ∙ ap (λ a. known_place r.known.places r.own.places a item) same)) (known-place before r st (good n).0 item (good n).1)) in
+    λ n. ((good n).0, subst (λ (p : Place). IsKnownPlace before item p) (sym (pe ∙ ap (λ a. known_place r.known.places a item) same)) (known-place before r st (good n).0 item (good n).1)) in
     record {
       scopes_are = scopes_are ∙ ap (λ a. scopes_behind number item a) same ∙ ap (λ (n : ℕ). scopes_behind n item (scopes before)) count;
       declared = declared-step before r r' st item (subst (λ (m : Option Named). (s : ℕ) (x : List ℕ) → found_in r'.declared.places s x ≡ cond (is_named m s x) (own_place m) (found_in r.declared.places s x)) (de ∙ ap (λ a. declared_by item a) same) dt);
       own = own-step before r r' st item (subst (λ (m : Option Named). (s : ℕ) (x : List ℕ) → found_in r'.own.places s x ≡ cond (is_named m s x) (own_place m) (found_in r.own.places s x)) (oe ∙ ap (λ a. own_by item a) same) ot);
-      known = known-step before r r' st item place place_is (subst (λ (m : Option Named). (s : ℕ) (x : List ℕ) → found_in r'.known.places s x ≡ cond (is_named m s x) (Some place) (found_in r.known.places s x)) (ke ∙ ap (λ a. known_by item a) same) kt);
+      known = known-step before r r' st item place place_is (subst (λ (m : Option Named). (s : ℕ) (x : List ℕ) → found_in r'.known.places s x ≡ cond (is_named m s x) (Some place) (found_in r.known.places s x)) (ke ∙ ap (λ a. made_known r.known.places a item) same) kt);
       fault = least-of-both (HasFault before) (IsFaultOf before (scopes before) item) r.fault f r'.fault st.fault least earliest;
       names = λ n. names-step before r st (good n).0 item (good n).1 r'.names.items (names ∙ ap (λ a. r.names.items ++ naming_of r.known.places a item) same);
     }

@@ -42,14 +42,14 @@ pub table-step : (Has Has' : ℕ → List ℕ → Type 0) (HasAt HasAt' : ℕ �
     → (n : Option Named) (w : Option Place) → ((s : ℕ) (x : List ℕ) → found_in new s x ≡ cond (is_named n s x) w (found_in old s x))
     → ((s : ℕ) (x : List ℕ) → Is n s x → MatchOption w (Has' s x → ⊥) (λ p. HasAt' s x p))
     → ((s : ℕ) (x : List ℕ) → (Is n s x → ⊥) → Has' s x → Has s x)
-    → ((s : ℕ) (x : List ℕ) (p : Place) → HasAt s x p → HasAt' s x p)
+    → ((s : ℕ) (x : List ℕ) (p : Place) → (Is n s x → ⊥) → HasAt s x p → HasAt' s x p)
     → IsTableOf Has' HasAt' new
 table-step Has Has' HasAt HasAt' old new h n w e at less kept s x = by (named-or-not n s x)
   where
-    other : (o : Option Place) → (Has' s x → Has s x) → MatchOption o (Has s x → ⊥) (λ p. HasAt s x p) → MatchOption o (Has' s x → ⊥) (λ p. HasAt' s x p)
-    other None f m = λ k. m (f k)
-    other (Some p) f m = kept s x p m
+    other : (o : Option Place) → (Is n s x → ⊥) → MatchOption o (Has s x → ⊥) (λ p. HasAt s x p) → MatchOption o (Has' s x → ⊥) (λ p. HasAt' s x p)
+    other None apart m = λ k. m (less s x apart k)
+    other (Some p) apart m = kept s x p apart m
 
     by : ((is_named n s x ≡ true) × Is n s x) ⊎ ((is_named n s x ≡ false) × (Is n s x → ⊥)) → MatchOption (found_in new s x) (Has' s x → ⊥) (λ p. HasAt' s x p)
     by (inl k) = subst (λ o. MatchOption o (Has' s x → ⊥) (λ p. HasAt' s x p)) (sym (e s x ∙ ap (λ (b : Bool). cond b w (found_in old s x)) k.0)) (at s x k.1)
-    by (inr k) = subst (λ o. MatchOption o (Has' s x → ⊥) (λ p. HasAt' s x p)) (sym (e s x ∙ ap (λ (b : Bool). cond b w (found_in old s x)) k.0)) (other (found_in old s x) (less s x k.1) (h s x))
+    by (inr k) = subst (λ o. MatchOption o (Has' s x → ⊥) (λ p. HasAt' s x p)) (sym (e s x ∙ ap (λ (b : Bool). cond b w (found_in old s x)) k.0)) (other (found_in old s x) k.1 (h s x))

@@ -4,8 +4,8 @@ use Rattle.std.specs.BTreeMap.{BTreeMap}
 use Rattle.mc_tree.specs.declared.place.Place.{Place}
 use Rattle.mc_tree.specs.declared.fault.Fault.{Fault}
 use Rattle.mc_prog.specs.Notes.{Item}
-use Rattle.mc_prog.specs.Scopes.{Before, scopes, known_by, Is, IsDeclared, IsOwn, IsKnown, HasFault}
-use Rattle.mc_prog.specs.Namings.{IsOwnAt, IsKnownAt, IsMadeKnown, AreNamings}
+use Rattle.mc_prog.specs.Scopes.{Before, scopes, IsMadeKnown, IsDeclared, IsOwn, IsKnown, HasFault}
+use Rattle.mc_prog.specs.Namings.{IsKnownAt, IsMadeKnownAt, AreNamings}
 use Rattle.mc_prog.specs.First.{IsFirst}
 use Rattle.mc_resolve.specs.Around.{around}
 use Rattle.mc_resolve.specs.Table.{Key, found_in}
@@ -28,7 +28,7 @@ IsOnly IsFault (Some f) = IsFault f × ((g : Fault) → IsFault g → g ≡ f)
 pub record Stands (before : Before) (r : Resolver) : Type 0 where
   pub scopes_are : around r.scopes.items ≡ scopes before
   pub declared : IsTableOf (IsDeclared before) (λ scope name place. IsDeclared before scope name) r.declared.places
-  pub own : IsTableOf (IsOwn before) (λ scope name place. IsOwn before scope name × IsOwnAt before scope name place) r.own.places
+  pub own : IsTableOf (IsOwn before) (λ scope name place. IsOwn before scope name) r.own.places
   pub known : IsTableOf (IsKnown before) (λ scope name place. IsKnown before scope name × (r.fault ≡ None → IsKnownAt before scope name place)) r.known.places
   pub fault : IsLeastOf (HasFault before) r.fault
   pub names : r.fault ≡ None → AreNamings before r.names.items
@@ -40,5 +40,5 @@ with_item item before = record { item = item; around = scopes before } ∷ befor
 -- An item without faults makes its name known as what is declared at this place.
 abbrev pub IsKnownPlace : Before → Item → Place → Type 0
 IsKnownPlace before item place =
-    (scope : ℕ) (name : List ℕ) → Is (known_by item (scopes before)) scope name
-    → IsMadeKnown (λ (a : ℕ). IsKnownAt before a name place) (λ (m : ℕ). IsOwnAt before m name place) item (scopes before) scope name place
+    (scope : ℕ) (name : List ℕ) → IsMadeKnown (λ (s : ℕ). IsKnown before s name) item (scopes before) scope name
+    → IsMadeKnownAt (λ (s : ℕ). IsKnownAt before s name place) item (scopes before) scope name place

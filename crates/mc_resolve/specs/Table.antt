@@ -7,7 +7,7 @@ use Rattle.std.specs.Ordering.{nat_cmp, ordering_then, is_eq}
 use Rattle.std.specs.Cmp.Lexicographic.{slice_cmp}
 use Rattle.mc_tree.specs.declared.place.Place.{Place}
 use Rattle.mc_prog.specs.Notes.{Item, Opens, Closes, Declares, Field, Knows, Lists, Defines, Uses, Ends}
-use Rattle.mc_prog.specs.Scopes.{Named, Scope, innermost, outer}
+use Rattle.mc_prog.specs.Scopes.{Named, Scope, innermost, outer, known_by}
 use Rattle.mc_prog.specs.Namings.{nowhere}
 
 abbrev pub Key : Type 0
@@ -25,17 +25,34 @@ abbrev pub found_of : BTreeMap Key Place → Option ℕ → List ℕ → Option 
 found_of places None name = None
 found_of places (Some scope) name = found_in places scope name
 
+-- where there is a place, this
+abbrev pub if_there : Option Place → Option Named → Option Named
+if_there None named = None
+if_there (Some place) named = named
+
+-- what an item makes known: a name of a define list where the module knows it
+abbrev pub made_known : BTreeMap Key Place → List Scope → Item → Option Named
+made_known known around (Opens kind) = None
+made_known known around Closes = None
+made_known known around (Declares name) = None
+made_known known around (Field name) = None
+made_known known around (Knows name) = known_by (Knows name) around
+made_known known around (Lists name) = known_by (Lists name) around
+made_known known around (Defines name) = if_there (found_of known (innermost around) name.text) (known_by (Defines name) around)
+made_known known around (Uses name) = None
+made_known known around (Ends name end) = None
+
 -- the place of what comes to be known by an item
-abbrev pub known_place : BTreeMap Key Place → BTreeMap Key Place → List Scope → Item → Place
-known_place known own around (Opens kind) = nowhere
-known_place known own around Closes = nowhere
-known_place known own around (Declares name) = nowhere
-known_place known own around (Field name) = nowhere
-known_place known own around (Knows name) = name.place
-known_place known own around (Lists name) = unwrap_or (found_of known (innermost (outer around)) name.text) nowhere
-known_place known own around (Defines name) = unwrap_or (found_of own (innermost around) name.text) nowhere
-known_place known own around (Uses name) = nowhere
-known_place known own around (Ends name end) = nowhere
+abbrev pub known_place : BTreeMap Key Place → List Scope → Item → Place
+known_place known around (Opens kind) = nowhere
+known_place known around Closes = nowhere
+known_place known around (Declares name) = nowhere
+known_place known around (Field name) = nowhere
+known_place known around (Knows name) = name.place
+known_place known around (Lists name) = unwrap_or (found_of known (innermost (outer around)) name.text) nowhere
+known_place known around (Defines name) = unwrap_or (found_of known (innermost around) name.text) nowhere
+known_place known around (Uses name) = nowhere
+known_place known around (Ends name end) = nowhere
 
 -- the first of two answers that is there
 abbrev pub or_else : Option Place → Option Place → Option Place

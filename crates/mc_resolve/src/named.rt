@@ -49,7 +49,7 @@ pub fn own_by<'a>(note: &Note<'a>, scopes: &[Scope]) -> Option<Named<'a>>
     }
 }
 
-/// What comes to be known by the item, and where.
+/// What comes to be known by the item, if it does, and where.
 pub fn known_by<'a>(note: &Note<'a>, scopes: &[Scope]) -> Option<Named<'a>>
     ensures { option_map named_of result ≡ known_by_item (item_of note.now) (around scopes.now) }
 {

@@ -2,12 +2,12 @@
 
 ghost use Rattle.std.specs.Prelude.{◌≡◌, ◌⊎◌, ℕ, [], length, IfOk, IfErr, None, Some, option_map};
 ghost use Rattle.mc_tree.specs.declared.fault.Fault.{Fault};
-ghost use Rattle.mc_prog.specs.Scopes.{Before, placed, scopes, IsTwice, IsUndefined, IsUnlisted, IsUnknown, IsFurther, IsOtherEnd, IsFaultOf, declared_by as declared_by_item, own_by as own_by_item, known_by as known_by_item};
+ghost use Rattle.mc_prog.specs.Scopes.{Before, placed, scopes, IsTwice, IsUndefined, IsUnlisted, IsUnknown, IsFurther, IsOtherEnd, IsFaultOf, declared_by as declared_by_item, own_by as own_by_item};
 ghost use Rattle.mc_resolve.specs.Items.{item_of};
 ghost use Rattle.mc_resolve.specs.Stands.{Stands, IsOnly, IsLeastOf, with_item};
 ghost use Rattle.mc_resolve.specs.Refusals.{IsItsFault};
 ghost use Rattle.mc_resolve.specs.Around.{around};
-ghost use Rattle.mc_resolve.specs.Table.{known_place};
+ghost use Rattle.mc_resolve.specs.Table.{made_known, known_place};
 ghost use Rattle.mc_resolve.specs.Views.{named_of};
 
 use crate::fault::ResolveFault;
@@ -167,9 +167,20 @@ impl<'a> Resolver<'a> {
         }
     }
 
+    // What the item makes known, and where. A module lets out what it knows itself alone.
+    fn made_known(&self, note: &Note<'a>) -> Option<Named<'a>>
+        ensures { option_map named_of result ≡ made_known self.now.known.places (around self.now.scopes.items) (item_of note.now) }
+    {
+        let scopes = self.scopes.as_slice();
+        if let Note::Defines(name) = note {
+            self.known.find_in(innermost(scopes), name.text.as_slice())?;
+        }
+        known_by(note, scopes)
+    }
+
     // Where the name is declared that comes to be known by the item, if the item has no fault.
     fn known_place(&self, note: &Note<'a>) -> Place
-        ensures { result ≡ known_place self.now.known.places self.now.own.places (around self.now.scopes.items) (item_of note.now) }
+        ensures { result ≡ known_place self.now.known.places (around self.now.scopes.items) (item_of note.now) }
     {
         let scopes = self.scopes.as_slice();
         match note {
@@ -179,7 +190,7 @@ impl<'a> Resolver<'a> {
                 .find_in(second(scopes), name.text.as_slice())
                 .unwrap_or(NOWHERE),
             Note::Defines(name) => self
-                .own
+                .known
                 .find_in(innermost(scopes), name.text.as_slice())
                 .unwrap_or(NOWHERE),
             _ => NOWHERE,
@@ -190,15 +201,15 @@ impl<'a> Resolver<'a> {
     fn effect_of(&self, note: &Note<'a>) -> Effect<'a>
         ensures declared { option_map named_of result.declared ≡ declared_by_item (item_of note.now) (around self.now.scopes.items) }
         ensures own { option_map named_of result.own ≡ own_by_item (item_of note.now) (around self.now.scopes.items) }
-        ensures known { option_map named_of result.known ≡ known_by_item (item_of note.now) (around self.now.scopes.items) }
-        ensures place { result.place ≡ known_place self.now.known.places self.now.own.places (around self.now.scopes.items) (item_of note.now) }
+        ensures known { option_map named_of result.known ≡ made_known self.now.known.places (around self.now.scopes.items) (item_of note.now) }
+        ensures place { result.place ≡ known_place self.now.known.places (around self.now.scopes.items) (item_of note.now) }
         ensures fault { (before : Before) → Stands before self.now → IsLeastOf (IsFaultOf before (scopes before) (item_of note.now)) result.fault }
     {
         let scopes = self.scopes.as_slice();
         Effect {
             declared: declared_by(note, scopes),
             own: own_by(note, scopes),
-            known: known_by(note, scopes),
+            known: self.made_known(note),
             place: self.known_place(note),
             fault: self.fault_of(note),
         }

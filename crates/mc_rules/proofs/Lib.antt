@@ -10,3 +10,4 @@ mod Marks
 mod SignalFaults
 mod SignalLaws
 mod TextLaws
+mod Weights

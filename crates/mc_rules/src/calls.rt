@@ -1,7 +1,7 @@
 // The calls of texts, and the variables that designators are of.
 
 ghost use Rattle.std.specs.Prelude.{◌≡◌, ◌↔◌, ◌++◌, ℕ, IfOk, OnOk, option_to_list};
-ghost use Rattle.mc_rules.specs.Calls.{AreCalls, HasCall, IsOfVariable, call_at, call_of, called_by, is_call, is_selection, sending, standard_call, waiting};
+ghost use Rattle.mc_rules.specs.Calls.{AreCalls, HasCall, IsOfVariable, IsPartOf, call_at, call_of, called_by, is_call, is_selection, sending, standard_call, waiting};
 ghost use Rattle.mc_rules.specs.Gathering.{Adds, ahead, called_at, cell_at, cell_of, front_at, parts_at};
 
 use crate::call::{Call, Called};
@@ -119,20 +119,33 @@ fn add(call: Option<Call>, calls: &mut Vec<Call>) -> Result<(), Memory>
     Ok(())
 }
 
+// Puts the parts of a node that stand in front of it behind others.
+fn add_parts(nodes: &[Node], n: usize, numbers: &mut Vec<usize>) -> Result<(), Memory>
+    ensures { OnOk result (Adds (IsPartOf nodes.now n) numbers.old.items numbers.new.items) }
+{
+    for part in parts_at(nodes, n) {
+        let part = *part as usize;
+        if part < n {
+            numbers.push(part)?;
+        }
+    }
+    Ok(())
+}
+
 /// Puts the calls of the text with this body behind others.
+///
+/// Nothing bounds how deep nodes lead to nodes, so those that are still to be gone through stand in a list.
 ///
 /// # Errors
 ///
 /// Want of memory.
-pub fn gather(nodes: &[Node], n: usize, calls: &mut Vec<Call>) -> Result<(), Memory>
+pub fn gather(alloc: Global, nodes: &[Node], n: usize, calls: &mut Vec<Call>) -> Result<(), Memory>
     ensures { OnOk result (Adds (HasCall nodes.now n) calls.old.items calls.new.items) }
 {
-    add(call_at(nodes, n), calls)?;
-    for part in parts_at(nodes, n) {
-        let part = *part as usize;
-        if part < n {
-            gather(nodes, part, calls)?;
-        }
+    let mut ahead = vec![in alloc; n]?;
+    while let Some(next) = ahead.pop() {
+        add(call_at(nodes, next), calls)?;
+        add_parts(nodes, next, &mut ahead)?;
     }
     Ok(())
 }
@@ -146,7 +159,7 @@ pub fn calls_of(alloc: Global, nodes: &[Node], body: usize) -> Result<Vec<Call>,
     ensures { IfOk result (λ calls. AreCalls nodes.now body calls.items) }
 {
     let mut calls = Vec::new(alloc);
-    gather(nodes, body, &mut calls)?;
+    gather(alloc, nodes, body, &mut calls)?;
     Ok(calls)
 }
 

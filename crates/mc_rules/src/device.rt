@@ -24,7 +24,7 @@ fn driver_calls(
     let mut calls = Vec::new(alloc);
     for process in processes {
         if process.vector.is_some() {
-            gather(nodes, process.code.body as usize, &mut calls)?;
+            gather(alloc, nodes, process.code.body as usize, &mut calls)?;
         }
     }
     Ok(calls)
@@ -70,11 +70,16 @@ fn enter(procedures: &[CodeInfo], marks: &mut [bool], called: Called) -> Option<
 }
 
 // Puts the calls of the text with a body behind others, where there is one.
-fn gather_from(nodes: &[Node], body: Option<usize>, found: &mut Vec<Call>) -> Result<(), Memory>
+fn gather_from(
+    alloc: Global,
+    nodes: &[Node],
+    body: Option<usize>,
+    found: &mut Vec<Call>,
+) -> Result<(), Memory>
     ensures { OnOk result (Adds (HasCallOf nodes.now body) found.old.items found.new.items) }
 {
     match body {
-        Some(body) => gather(nodes, body, found),
+        Some(body) => gather(alloc, nodes, body, found),
         None => Ok(()),
     }
 }
@@ -93,7 +98,7 @@ fn follow(
     let mut next = 0;
     while next < found.len() {
         let body = enter(procedures, marks, found[next].called);
-        gather_from(nodes, body, found)?;
+        gather_from(alloc, nodes, body, found)?;
         next += 1;
     }
     Ok(())

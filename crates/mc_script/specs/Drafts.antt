@@ -8,7 +8,7 @@ use Rattle.mc_script.specs.declared.setting.Setting.{Setting}
 use Rattle.mc_script.specs.declared.setting.Setting.TheVariants.{Printer, Reader, Punch, Clock, Limit}
 use Rattle.mc_script.specs.declared.fault.ScriptFault.{ScriptFault}
 use Rattle.mc_script.specs.declared.fault.ScriptFault.TheVariants.{BadLine, OutOfRange, Twice, Backwards, Memory}
-use Rattle.mc_script.specs.Script.{ScriptState, IsWithin, AreAfter, IsPeriod, IsScript}
+use Rattle.mc_script.specs.Script.{ScriptState, IsWithin, AreAfter, AreBytes, bytes_of, IsPeriod, IsScript}
 use Rattle.mc_script.specs.Forms.{Form, Strikes, Tape, Sets, IsForm, greatest_of, IsInRange, keys_of, tape_of, same_setting, value_of, last_time, script_of, IsGood}
 use Rattle.mc_script.specs.Texts.{Accepts, StandsIn}
 
@@ -227,9 +227,29 @@ keys_after : (time : ℕ) (keys : List Key) (key : Key) → AreAfter time keys �
 keys_after time [] key h l m = (l, m, tt)
 keys_after time (k ∷ keys) key h l m = (h.0, h.1, keys_after k.at keys key h.2 l m)
 
+bytes_more : (xs ys : List ℕ) → AreBytes xs → AreBytes ys → AreBytes (xs ++ ys)
+bytes_more [] ys h k = k
+bytes_more (x ∷ xs) ys h k = (h.0, bytes_more xs ys h.1 k)
+
+struck_more : (xs ys : List Key) → AreBytes (bytes_of xs) → AreBytes (bytes_of ys) → AreBytes (bytes_of (xs ++ ys))
+struck_more [] ys h k = k
+struck_more (x ∷ xs) ys h k = (h.0, struck_more xs ys h.1 k)
+
+struck_in : (form : Form) → IsInRange form → AreBytes (bytes_of (key_in form))
+struck_in (Strikes time byte) h = (h.1, tt)
+struck_in (Tape bytes) h = tt
+struck_in (Sets setting n) h = tt
+
+punched_in : (form : Form) → IsInRange form → AreBytes (bytes_in form)
+punched_in (Strikes time byte) h = tt
+punched_in (Tape bytes) h = h
+punched_in (Sets setting n) h = tt
+
 -- values in their ranges
 pub record IsSound (forms : List Form) : Type 0 where
   pub keys : AreAfter 0 (keys_of forms)
+  pub bytes : AreBytes (bytes_of (keys_of forms))
+  pub tape : AreBytes (tape_of forms)
   pub values : (setting : Setting) (n : ℕ) → value_of setting forms ≡ Some n → IsWithin (greatest_of setting) n
 
 chosen_value : (setting other : Setting) (n m : ℕ) (o : Option ℕ) → cond (same_setting setting other) (Some n) o ≡ Some m → ((same_setting setting other ≡ true) × (n ≡ m)) ⊎ (o ≡ Some m)
@@ -280,6 +300,8 @@ sound_more : (forms : List Form) (form : Form) → IsSound forms → IsGood form
 sound_more forms form h g =
     record {
       keys = subst (λ (l : List Key). AreAfter 0 l) (sym (keys_more forms form)) (keys_sound forms form g h.keys);
+      bytes = subst (λ (l : List Key). AreBytes (bytes_of l)) (sym (keys_more forms form)) (struck_more (keys_of forms) (key_in form) h.bytes (struck_in form g.in_range));
+      tape = subst (λ (l : List ℕ). AreBytes l) (sym (tape_more forms form)) (bytes_more (tape_of forms) (bytes_in form) h.tape (punched_in form g.in_range));
       values = λ setting n e.
           elim (or_else_value (value_of setting forms) (value_in setting form) n (sym (value_more setting forms form) ∙ e)) [
             | inl v ↦ h.values setting n v
@@ -293,7 +315,7 @@ accepts_sound (line ∷ lines) before all (inl a) h = accepts_sound lines before
 accepts_sound (line ∷ lines) before all (inr a) h = accepts_sound lines (before ++ a.0 ∷ []) all a.3 (sound_more before a.0 h a.2)
 
 nothing_is_sound : IsSound []
-nothing_is_sound = record { keys = tt; values = λ setting n e. absurd cc }
+nothing_is_sound = record { keys = tt; bytes = tt; tape = tt; values = λ setting n e. absurd cc }
 
 within_or : (o : Option ℕ) (most usual : ℕ) → ((n : ℕ) → o ≡ Some n → IsWithin most n) → IsWithin most usual → IsWithin most (unwrap_or o usual)
 within_or None most usual h u = u
@@ -308,6 +330,8 @@ Accepts-script lines forms a =
     let s : IsSound forms = accepts_sound lines [] forms a nothing_is_sound in
     record {
       keys = s.keys;
+      bytes = s.bytes;
+      tape = s.tape;
       printer = within_or (value_of Printer forms) 1000000 300 (s.values Printer) (omega arith, omega arith);
       reader = within_or (value_of Reader forms) 1000000 200 (s.values Reader) (omega arith, omega arith);
       punch = within_or (value_of Punch forms) 1000000 400 (s.values Punch) (omega arith, omega arith);

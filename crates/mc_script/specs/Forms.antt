@@ -3,7 +3,7 @@ use Rattle.std.specs.Prelude.{◌≡◌, ◌≢◌, ℕ, ◌+◌, ◌-◌, ◌*�
 use Rattle.mc_script.specs.declared.script.Key.{Key}
 use Rattle.mc_script.specs.declared.setting.Setting.{Setting}
 use Rattle.mc_script.specs.declared.setting.Setting.TheVariants.{Printer, Reader, Punch, Clock, Limit}
-use Rattle.mc_script.specs.Script.{ScriptState, IsWithin}
+use Rattle.mc_script.specs.Script.{AreBytes, ScriptState, IsWithin}
 
 -- what a line says: a key is struck at a time; bytes are on the tape; a delay, the clock or the limit has a value
 pub data Form : Type 0 where
@@ -57,10 +57,6 @@ greatest_of Reader = 1000000
 greatest_of Punch = 1000000
 greatest_of Clock = 20000000
 greatest_of Limit = 20000000
-
-abbrev pub AreBytes : List ℕ → Type 0
-AreBytes [] = Unit {0}
-AreBytes (b ∷ bytes) = (b ≤ 255) × AreBytes bytes
 
 abbrev pub IsInRange : Form → Type 0
 IsInRange (Strikes time byte) = IsWithin 20000000 time × (byte ≤ 255)

@@ -1,5 +1,5 @@
 -- What a script says, and in which ranges.
-use Rattle.std.specs.Prelude.{ℕ, ◌<◌, ◌≤◌, List, [], ◌∷◌, Option, Some, None}
+use Rattle.std.specs.Prelude.{ℕ, ◌<◌, ◌≤◌, List, [], ◌∷◌, map, Option, Some, None}
 use Rattle.mc_script.specs.declared.script.Key.{Key}
 
 pub record ScriptState : Type 0 where
@@ -29,8 +29,18 @@ abbrev pub IsPeriod : Option ℕ → Type 0
 IsPeriod None = Unit {0}
 IsPeriod (Some n) = IsWithin 20000000 n
 
+-- each number is a byte
+abbrev pub AreBytes : List ℕ → Type 0
+AreBytes [] = Unit {0}
+AreBytes (b ∷ bytes) = (b ≤ 255) × AreBytes bytes
+
+abbrev pub bytes_of : List Key → List ℕ
+bytes_of keys = map (λ k. k.byte) keys
+
 pub record IsScript (s : ScriptState) : Type 0 where
   pub keys : AreAfter 0 s.keys
+  pub bytes : AreBytes (bytes_of s.keys)
+  pub tape : AreBytes s.tape
   pub printer : IsWithin 1000000 s.printer
   pub reader : IsWithin 1000000 s.reader
   pub punch : IsWithin 1000000 s.punch

@@ -1,9 +1,9 @@
 // What is kept of a script while its lines are read.
 
 ghost use Rattle.std.specs.Prelude.{◌≡◌, ◌++◌, ◌∷◌, [], OnOk, map};
-ghost use Rattle.mc_script.specs.Script.{IsScript};
 ghost use Rattle.mc_script.specs.Lines.{fields};
-ghost use Rattle.mc_script.specs.Forms.{value, AreBytes};
+ghost use Rattle.mc_script.specs.Script.{AreBytes, IsScript};
+ghost use Rattle.mc_script.specs.Forms.{value};
 ghost use Rattle.mc_script.specs.Drafts.{draft_of, given, with_value, script_in};
 
 use crate::fields::next_field;

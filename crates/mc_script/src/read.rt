@@ -4,7 +4,8 @@ ghost use Rattle.std.specs.Prelude.{◌≡◌, ◌⊎◌, ◌<◌, ◌+◌, ◌�
 ghost use Rattle.mc_script.specs.declared.fault.ScriptFault.{ScriptFault};
 ghost use Rattle.mc_script.specs.Script.{ScriptState};
 ghost use Rattle.mc_script.specs.Lines.{fields, fields_of};
-ghost use Rattle.mc_script.specs.Forms.{Form, Strikes, Tape, Sets, value, greatest_of, AreBytes};
+ghost use Rattle.mc_script.specs.Script.{AreBytes};
+ghost use Rattle.mc_script.specs.Forms.{Form, Strikes, Tape, Sets, value, greatest_of};
 ghost use Rattle.mc_script.specs.Texts.{IsText, HasFirstFault};
 ghost use Rattle.mc_script.specs.Reading.{form_in};
 ghost use Rattle.mc_script.specs.Drafts.{draft_of, with_form, IsAllowed, IsFaultOf};

@@ -92,10 +92,11 @@ impl Script {
         }
     }
 
-    /// The keys, in order of their times.
+    /// The keys, in order of their times; each script has its values in their ranges.
     pub fn keys(&self) -> &[Key]
         ensures value { result.now ≡ self.now.keys }
         ensures range { AreAfter 0 result.now }
+        ensures script { IsScript self.now }
     {
         self.keys.as_slice()
     }

@@ -41,3 +41,17 @@ asks asked ask = option_map (λ before. before ++ ask ∷ []) asked
 -- spare room for so many bytes, or for more, is told
 abbrev pub HasRoom : Option ℕ → ℕ → Type 0
 HasRoom spare n = IsSomeAnd spare (λ room. n ≤ room)
+
+-- What a shelf tells of itself at a moment, and two counts of 64 bits. A count never falls, and may stand still at its last value.
+pub record View : Type 0 where
+  pub files : Option Files
+  -- all bytes that were printed
+  pub printed : Option (List ℕ)
+  -- all loads and saves that were asked, in their order
+  pub asked : Option (List Ask)
+  -- how many bytes can be printed without want of memory
+  pub spare : Option ℕ
+  -- how often a call failed
+  pub faults : ℕ
+  -- how often a file was too long
+  pub longs : ℕ

@@ -101,17 +101,7 @@ impl Shelf for MemShelf {
     ghost use Rattle.std.specs.Prelude.{Some};
     ghost use Rattle.mc_shelf.specs.Kept.{file_of};
 
-    ghost files = { λ s. Some (file_of s.kept.files) };
-
-    ghost printed = { λ s. Some s.kept.printed };
-
-    ghost asked = { λ s. Some s.kept.asked };
-
-    ghost spare = { λ s. Some s.kept.spare };
-
-    ghost faults = { λ s. s.faults };
-
-    ghost longs = { λ s. s.kept.longs };
+    ghost seen = { λ s. record { files = Some (file_of s.kept.files); printed = Some s.kept.printed; asked = Some s.kept.asked; spare = Some s.kept.spare; faults = s.faults; longs = s.kept.longs } };
 
     /// A call that fails, and a load of a name that the shelf lacks, answer `Failed`.
     fn load(&mut self, alloc: Global, name: &str, max: usize) -> Result<Vec<u8>, LoadFault>

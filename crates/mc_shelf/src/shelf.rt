@@ -4,7 +4,7 @@ ghost use Rattle.std.specs.Prelude.{◌≡◌, ◌≢◌, ℕ, ◌+◌, ◌<◌,
 ghost use Rattle.mc_shelf.specs.declared.ask.Ask.{Ask};
 ghost use Rattle.mc_shelf.specs.declared.shelf.LoadFault.TheVariants.{Memory as LoadMemory};
 ghost use Rattle.mc_shelf.specs.declared.shelf.PutFault.TheVariants.{Memory as PutMemory};
-ghost use Rattle.mc_shelf.specs.Outside.{Files, content, Told, Rose, placed, appended, IsPart, asks, HasRoom};
+ghost use Rattle.mc_shelf.specs.Outside.{View, content, Told, Rose, placed, appended, IsPart, asks, HasRoom};
 
 use mc_word::bytes::Memory;
 use std::alloc::{AllocError, Global};
@@ -61,23 +61,9 @@ impl From<Memory> for PutFault {
 ///
 /// What a shelf does not tell of itself (`None`), no clause promises.
 pub trait Shelf {
-    /// The files, where told.
-    ghost files: { Self → Option Files };
-
-    /// All bytes that were printed, where told.
-    ghost printed: { Self → Option (List ℕ) };
-
-    /// All loads and saves that were asked, in their order, where told.
-    ghost asked: { Self → Option (List Ask) };
-
-    /// How many bytes can be printed without want of memory, where told.
-    ghost spare: { Self → Option ℕ };
-
-    /// How often a call failed. The count never falls, and may stand still at the last value of a `u64`.
-    ghost faults: { Self → ℕ };
-
-    /// How often a file was too long. The count never falls, and may stand still at the last value of a `u64`.
-    ghost longs: { Self → ℕ };
+    /// What the shelf tells of itself: files, what was printed and asked, spare room, and how often calls failed and files
+    /// were too long.
+    ghost seen: { Self → View };
 
     /// Loads a file of at most `max` bytes.
     ///
@@ -85,26 +71,26 @@ pub trait Shelf {
     ///
     /// `Failed` where the outside failed, `TooLong` where the file has more than `max` bytes, and `Memory`.
     fn load(&mut self, alloc: Global, name: &str, max: usize) -> Result<Vec<u8>, LoadFault>
-        ensures bytes { IfOk result (λ v. Told (files self.old) (λ f. v.items ≡ content f name.now)) }
+        ensures bytes { IfOk result (λ v. Told (seen self.old).files (λ f. v.items ≡ content f name.now)) }
         ensures short { IfOk result (λ v. length v.items ≤ max) }
 
         // Each error's cause.
-        ensures failed { IsErrOf result LoadFault.Failed → Rose (faults self.old) (faults self.new) }
-        ensures long { IsErrOf result LoadFault.TooLong → Rose (longs self.old) (longs self.new) }
-        ensures exactly_long { ¬ (Rose (faults self.old) (faults self.new)) → result ≢ Err LoadFault.Memory → Told (files self.old) (λ f. IsErrOf result LoadFault.TooLong ↔ (max < length (content f name.now))) }
+        ensures failed { IsErrOf result LoadFault.Failed → Rose (seen self.old).faults (seen self.new).faults }
+        ensures long { IsErrOf result LoadFault.TooLong → Rose (seen self.old).longs (seen self.new).longs }
+        ensures exactly_long { ¬ (Rose (seen self.old).faults (seen self.new).faults) → result ≢ Err LoadFault.Memory → Told (seen self.old).files (λ f. IsErrOf result LoadFault.TooLong ↔ (max < length (content f name.now))) }
 
         // The counts grow by these errors alone.
-        ensures faults_later { faults self.old ≤ faults self.new }
-        ensures faults_same { result ≢ Err LoadFault.Failed → faults self.new ≡ faults self.old }
-        ensures longs_later { longs self.old ≤ longs self.new }
-        ensures longs_same { result ≢ Err LoadFault.TooLong → longs self.new ≡ longs self.old }
+        ensures faults_later { (seen self.old).faults ≤ (seen self.new).faults }
+        ensures faults_same { result ≢ Err LoadFault.Failed → (seen self.new).faults ≡ (seen self.old).faults }
+        ensures longs_later { (seen self.old).longs ≤ (seen self.new).longs }
+        ensures longs_same { result ≢ Err LoadFault.TooLong → (seen self.new).longs ≡ (seen self.old).longs }
 
         // What else changes, and what stays.
-        ensures asked { result ≢ Err LoadFault.Memory → asked self.new ≡ asks (asked self.old) (Ask.Load name.now) }
-        ensures unasked { IsErrOf result LoadFault.Memory → asked self.new ≡ asked self.old }
-        ensures files { files self.new ≡ files self.old }
-        ensures printed { printed self.new ≡ printed self.old }
-        ensures spare { (n : ℕ) → HasRoom (spare self.old) n → HasRoom (spare self.new) n };
+        ensures asked { result ≢ Err LoadFault.Memory → (seen self.new).asked ≡ asks (seen self.old).asked (Ask.Load name.now) }
+        ensures unasked { IsErrOf result LoadFault.Memory → (seen self.new).asked ≡ (seen self.old).asked }
+        ensures files { (seen self.new).files ≡ (seen self.old).files }
+        ensures printed { (seen self.new).printed ≡ (seen self.old).printed }
+        ensures spare { (n : ℕ) → HasRoom (seen self.old).spare n → HasRoom (seen self.new).spare n };
 
     /// Gives a file these bytes, in place of those that it had.
     ///
@@ -112,23 +98,23 @@ pub trait Shelf {
     ///
     /// `Failed` where the outside failed, after which what this file holds is unknown; and `Memory`.
     fn save(&mut self, name: &str, bytes: &[u8]) -> Result<(), PutFault>
-        ensures ok { OnOk result (files self.new ≡ placed (files self.old) name.now (Some bytes.now)) }
+        ensures ok { OnOk result ((seen self.new).files ≡ placed (seen self.old).files name.now (Some bytes.now)) }
 
         // Each error's cause, and what it leaves.
-        ensures failed { IsErrOf result PutFault.Failed → Rose (faults self.old) (faults self.new) }
-        ensures unknown { IsErrOf result PutFault.Failed → (held : Option (List ℕ)) × (files self.new ≡ placed (files self.old) name.now held) }
-        ensures memory { IsErrOf result PutFault.Memory → (files self.new ≡ files self.old) × (spare self.new ≡ spare self.old) }
+        ensures failed { IsErrOf result PutFault.Failed → Rose (seen self.old).faults (seen self.new).faults }
+        ensures unknown { IsErrOf result PutFault.Failed → (held : Option (List ℕ)) × ((seen self.new).files ≡ placed (seen self.old).files name.now held) }
+        ensures memory { IsErrOf result PutFault.Memory → ((seen self.new).files ≡ (seen self.old).files) × ((seen self.new).spare ≡ (seen self.old).spare) }
 
         // The count grows by a failure alone.
-        ensures faults_later { faults self.old ≤ faults self.new }
-        ensures faults_same { result ≢ Err PutFault.Failed → faults self.new ≡ faults self.old }
+        ensures faults_later { (seen self.old).faults ≤ (seen self.new).faults }
+        ensures faults_same { result ≢ Err PutFault.Failed → (seen self.new).faults ≡ (seen self.old).faults }
 
         // What else changes, and what stays.
-        ensures asked { result ≢ Err PutFault.Memory → asked self.new ≡ asks (asked self.old) (Ask.Save name.now) }
-        ensures unasked { IsErrOf result PutFault.Memory → asked self.new ≡ asked self.old }
-        ensures longs { longs self.new ≡ longs self.old }
-        ensures printed { printed self.new ≡ printed self.old }
-        ensures spare { (n : ℕ) → HasRoom (spare self.old) n → HasRoom (spare self.new) n };
+        ensures asked { result ≢ Err PutFault.Memory → (seen self.new).asked ≡ asks (seen self.old).asked (Ask.Save name.now) }
+        ensures unasked { IsErrOf result PutFault.Memory → (seen self.new).asked ≡ (seen self.old).asked }
+        ensures longs { (seen self.new).longs ≡ (seen self.old).longs }
+        ensures printed { (seen self.new).printed ≡ (seen self.old).printed }
+        ensures spare { (n : ℕ) → HasRoom (seen self.old).spare n → HasRoom (seen self.new).spare n };
 
     /// Appends bytes to what was printed.
     ///
@@ -137,26 +123,26 @@ pub trait Shelf {
     /// `Failed` where the outside failed, after which a first part of the bytes was printed; and `Memory`, of which
     /// room that was told keeps a print free.
     fn print(&mut self, bytes: &[u8]) -> Result<(), PutFault>
-        ensures ok { OnOk result (printed self.new ≡ appended (printed self.old) bytes.now) }
+        ensures ok { OnOk result ((seen self.new).printed ≡ appended (seen self.old).printed bytes.now) }
 
         // Each error's cause, and what it leaves.
-        ensures failed { IsErrOf result PutFault.Failed → Rose (faults self.old) (faults self.new) }
-        ensures part { IsErrOf result PutFault.Failed → IsPart (printed self.old) bytes.now (printed self.new) }
-        ensures memory { IsErrOf result PutFault.Memory → printed self.new ≡ printed self.old }
+        ensures failed { IsErrOf result PutFault.Failed → Rose (seen self.old).faults (seen self.new).faults }
+        ensures part { IsErrOf result PutFault.Failed → IsPart (seen self.old).printed bytes.now (seen self.new).printed }
+        ensures memory { IsErrOf result PutFault.Memory → (seen self.new).printed ≡ (seen self.old).printed }
 
         // Within spare room there is no want of memory, and the print takes no more than its length of that room.
-        ensures room { HasRoom (spare self.old) (length bytes.now) → result ≢ Err PutFault.Memory }
-        ensures spare { (n : ℕ) → HasRoom (spare self.old) (length bytes.now + n) → HasRoom (spare self.new) n }
+        ensures room { HasRoom (seen self.old).spare (length bytes.now) → result ≢ Err PutFault.Memory }
+        ensures spare { (n : ℕ) → HasRoom (seen self.old).spare (length bytes.now + n) → HasRoom (seen self.new).spare n }
 
         // A print of no bytes does nothing.
         ensures nothing { bytes.now ≡ [] → IsOk result × (self.new ≡ self.old) }
 
         // The count grows by a failure alone.
-        ensures faults_later { faults self.old ≤ faults self.new }
-        ensures faults_same { result ≢ Err PutFault.Failed → faults self.new ≡ faults self.old }
+        ensures faults_later { (seen self.old).faults ≤ (seen self.new).faults }
+        ensures faults_same { result ≢ Err PutFault.Failed → (seen self.new).faults ≡ (seen self.old).faults }
 
         // What stays.
-        ensures longs { longs self.new ≡ longs self.old }
-        ensures asked { asked self.new ≡ asked self.old }
-        ensures files { files self.new ≡ files self.old };
+        ensures longs { (seen self.new).longs ≡ (seen self.old).longs }
+        ensures asked { (seen self.new).asked ≡ (seen self.old).asked }
+        ensures files { (seen self.new).files ≡ (seen self.old).files };
 }

@@ -74,17 +74,7 @@ impl Shelf for SoundShelf {
     ghost use Rattle.std.specs.Prelude.{Some};
     ghost use Rattle.mc_shelf.specs.Kept.{file_of};
 
-    ghost files = { λ s. Some (file_of s.files) };
-
-    ghost printed = { λ s. Some s.printed };
-
-    ghost asked = { λ s. Some s.asked };
-
-    ghost spare = { λ s. Some s.spare };
-
-    ghost faults = { λ _. 0 };
-
-    ghost longs = { λ s. s.longs };
+    ghost seen = { λ s. record { files = Some (file_of s.files); printed = Some s.printed; asked = Some s.asked; spare = Some s.spare; faults = 0; longs = s.longs } };
 
     fn load(&mut self, alloc: Global, name: &str, max: usize) -> Result<Vec<u8>, LoadFault>
         ensures ok { IfOk result (λ v. v.items ≡ content (file_of self.old.files) name.now) }

@@ -139,4 +139,50 @@ Y1 24: module m; begin if 1 + true then end end m.
 Y1 53: module m; var a: array 'a':'b' of char; begin a[1 + true] := 2 end m.
 Y1 51: module m; var i: integer; procedure p; begin i := 'a' end p; const k = 'ab'; begin k := 1 end m.
 Y8 48: module m; var a: array 1:2 of char; begin a := 'abc'; a := '' end m.
+Y1 18: module m; var x: p; procedure p; begin end p; begin end m.
+Y1 18: module m; var x: p; process p; begin end p; begin end m.
+Y1 20: module m; type t = p; procedure p; begin end p; begin end m.
+Y1 31: module m; var x: array 1:2 of p; procedure p; begin end p; begin end m.
+Y1 28: module m; var x: record a: p end; procedure p; begin end p; begin end m.
+Y1 26: module m; procedure q(a: p); begin end q; procedure p; begin end p; begin end m.
+Y1 30: module m; procedure q(var a: p); begin end q; procedure p; begin end p; begin end m.
+Y1 24: module m; procedure q: p; begin end q; procedure p; begin end p; begin end m.
+Y1 26: module m; procedure p(a: p); begin end p; begin end m.
+Y1 24: module m; procedure p: p; begin end p; begin end m.
+Y1 24: module m; process p(a: p); begin end p; begin end m.
+Y1 35: module m; module n; use p; var x: p; end n; procedure p; begin end p; begin end m.
+Y1 52: module m; module n; use p; module k; use p; var x: p; end k; end n; procedure p; begin end p; begin end m.
+Y1 31: module m; procedure q; var x: p; begin end q; procedure p; begin end p; begin end m.
+Y1 39: device module m [4]; var x [177560B]: p; procedure p; begin end p; begin end m.
+Y5 21: module m; const c = f ; procedure f: integer; begin f := 1 end f; begin end m.
+Y5 63: module m; procedure f: integer; begin f := 1 end f; const c = f ; begin end m.
+Y4 26: module m; type t = array f:2 of char; procedure f: integer; begin f := 1 end f; begin end m.
+Y5 29: device module m [4]; var x [f]: bits; procedure f: integer; begin f := 1 end f; begin end m.
+Y1 24: module m; procedure p: q; begin end p; process q; begin end q; begin end m.
+ok: module m; procedure p; begin q end p; procedure q; begin p; r end q; process r; begin end r; begin p end m.
+ok: module m; module n; use p; procedure q; begin p end q; begin q end n; procedure p; begin end p; begin end m.
+ok: module m; var i: integer; procedure p; begin i := f end p; procedure f: integer; begin f := 1 end f; begin end m.
+Y6 25: module m; process p(var a: wait); begin end p; begin end m.
+Y6 37: module m; process p(a: integer; var b: Boolean); begin end p; begin end m.
+Y6 37: module m; process p(b: Boolean; var a: wait); begin end p; begin end m.
+Y2 32: module m; const d = [1]; begin d[true] := true end m.
+Y2 32: module m; const d = [1]; begin d[1 + true] := true end m.
+Y2 76: module m; const d = [1]; procedure q(var b: Boolean); begin end q; begin q(d[true]) end m.
+Y1 55: module m; const d = [1]; var b: Boolean; begin b := d[true] end m.
+Y1 57: module m; procedure a: bits; var x: Boolean; begin x := a['ab' div 1] end a; begin end m.
+Y1 55: module m; var x: integer; procedure q; begin x := f + true end q; procedure f: wait; begin end f; begin end m.
+Y1 55: module m; var x: Boolean; procedure q; begin x := f = 'ab' end q; procedure f: wait; begin end f; begin end m.
+Y1 55: module m; var x: Boolean; procedure q; begin x := f < [1] end q; procedure f: wait; begin end f; begin end m.
+Y1 81: module m; var x: Boolean; procedure q; begin x := f and [1] end q; procedure f: wait; begin end f; begin end m.
+Y1 31: module m; procedure p; var x: array 1:2 of record s: signal end; begin end p; begin end m.
+Y1 33: module m; procedure p; type t = array 1:2, 3:4 of record s: signal end; begin end p; begin end m.
+ok: module m; procedure p; type t = array 1:2 of array 1:3 of signal; begin end p; begin end m.
+Y1 31: module m; procedure p; var x: record a: record s: signal end; b: integer end; begin end p; begin end m.
+Y1 31: module m; procedure p; var x: record a: wait; s: signal end; begin end p; begin end m.
+Y1 31: module m; procedure p; var x: array 2:1 of signal; begin end p; begin end m.
+Y4 52: module m; procedure p; type x = array 1:2 of array 2:1 of signal; begin end p; begin end m.
+Y1 28: module m; var x: record a: record s: signal end; b: integer end; begin end m.
+Y1 28: module m; var x: record a: array 1:2 of record s: signal end; b: integer end; begin end m.
+Y1 41: module m; var x: array 1:2 of record s: signal end; begin end m.
+Y4 28: module m; var x: record a: array 1:20001 of signal end; begin end m.
 "#;

@@ -360,3 +360,38 @@ fn copies_a_structured_parameter(rt: HostRuntime) -> Result<(), Fail> {
     assert!(rt; held == Ok(true), "{held:?}");
     Ok(())
 }
+
+/// The main process traps while the keyboard may ask; then a key comes, and nothing is granted.
+#[test]
+fn grants_nothing_after_a_trap(rt: HostRuntime) -> Result<(), Fail> {
+    let source =
+        "module m; device module kb [4]; var TKS [177560B]: bits; process driver [60B]; begin TKS[6] := true; doio end driver; begin driver end kb; var i: integer; begin i := 0; i := 1 div i end m.";
+    let moves = [
+        Move::Steps(500),
+        Move::Happens(Event::Key(0o101)),
+        Move::Grants,
+    ];
+    let journal = [Entry::Event(Event::Key(0o101))];
+    let held = holds(rt.alloc(), source, &moves[..2], &journal, End::Trapped(3));
+    assert!(rt; held == Ok(true), "{held:?}");
+    let held = holds(rt.alloc(), source, &moves, &journal, End::Impossible(2));
+    assert!(rt; held == Ok(true), "{held:?}");
+    Ok(())
+}
+
+/// A truth that a comparison gives is written to a bit, and its opposite to another.
+#[test]
+fn writes_what_comparisons_give_to_bits(rt: HostRuntime) -> Result<(), Fail> {
+    let source =
+        "module flags; device module console [4]; define put; var TPS [177564B]: bits; TPB [177566B]: char; procedure put(c: char); begin while not TPS[7] do end; TPB := c end put; end console; type hue = (red, green); var b: bits; begin b := [0]; b[6] := 'a' < 'b'; b[1] := red < green; b[0] := not b[6]; b[2] := -1 > 1; put(char(integer(b))) end flags.";
+    let journal = [Entry::Print(0o102)];
+    let held = holds(
+        rt.alloc(),
+        source,
+        &[Move::Steps(500)],
+        &journal,
+        End::Ended,
+    );
+    assert!(rt; held == Ok(true), "{held:?}");
+    Ok(())
+}

@@ -8,7 +8,7 @@ use std::alloc::Global;
 use std::test::Fail;
 
 /// Sources of the scopes, each with the code and the column of its fault.
-const SCOPES: [(&str, Option<(Code, u32)>); 73] = [
+const SCOPES: &[(&str, Option<(Code, u32)>)] = &[
     ("module m; begin x := 1 end m.", Some((Code::S1, 17))),
     ("module m; var x: integer; begin x := 1 end m.", None),
     ("module m; begin m := 1 end m.", Some((Code::S1, 17))),
@@ -274,6 +274,30 @@ const SCOPES: [(&str, Option<(Code, u32)>); 73] = [
         "module m; module n; begin x := 1 end n; module k; define x; var x: integer; end k; begin x := 1 end m.",
         Some((Code::S1, 27)),
     ),
+    (
+        "module m; module n; define k; module k; end k; end n; module o; use k; end o; begin end m.",
+        Some((Code::S1, 69)),
+    ),
+    (
+        "module m; module n; define k; module k; end k; end n; begin k end m.",
+        Some((Code::S1, 61)),
+    ),
+    (
+        "module m; module n; define k; module k; define x; var x: integer; end k; end n; begin x := 1 end m.",
+        Some((Code::S1, 87)),
+    ),
+    (
+        "module m; module n; define k; module k; end k; end n; var k: integer; begin end m.",
+        Some((Code::S2, 59)),
+    ),
+    (
+        "module m; module n; define k; module k; end k; end n; begin end m.",
+        None,
+    ),
+    (
+        "module m; module n; define k; module k; end k; end n; module o; use p; procedure q; begin p end q; end o; procedure p; begin end p; begin end m.",
+        None,
+    ),
 ];
 
 /// Sources without faults, each with the columns of its uses and of their declarations; 0 is that of a standard name.
@@ -325,14 +349,28 @@ const NAMINGS: [(&str, &[(u32, u32)]); 9] = [
     ),
 ];
 
-#[test]
-fn names_the_first_fault_of_scopes(rt: HostRuntime) -> Result<(), Fail> {
-    let alloc = rt.alloc();
-    for (source, fault) in SCOPES {
+/// The first source whose fault is another one, with what is found.
+fn scope_mismatch(
+    alloc: Global,
+    rows: &[(&str, Option<(Code, u32)>)],
+) -> Result<Option<String>, Memory> {
+    for row in rows {
+        let (source, fault) = *row;
         let expected = fault.map(|(code, column)| fault_at(code, column));
         let found = fault_of(names_of(alloc, source.as_bytes()))?;
-        assert!(rt; found == expected, "{source}: {found:?}");
+        if found != expected {
+            return format!(in alloc; "{source}: {found:?}")
+                .map(Some)
+                .map_err(|_| Memory);
+        }
     }
+    Ok(None)
+}
+
+#[test]
+fn names_the_first_fault_of_scopes(rt: HostRuntime) -> Result<(), Fail> {
+    let mismatch = scope_mismatch(rt.alloc(), SCOPES)?;
+    assert!(rt; mismatch.is_none(), "{mismatch:?}");
     Ok(())
 }
 

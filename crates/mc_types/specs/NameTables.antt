@@ -25,4 +25,4 @@ AreUses namings declarations = (place : Place) → unwrap_or (found declarations
 
 -- the table of declarations stands for these, the latest first
 abbrev pub AreEntities : List (Place × Entity) → BTreeMap Key Entity → Type 0
-AreEntities list entities = (place : Place) → unwrap_or (found entities place) entity.Faulty ≡ entity_in list place
+AreEntities list entities = (place : Place) → unwrap_or (found entities place) entity.Ahead ≡ entity_in list place

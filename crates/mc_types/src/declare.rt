@@ -13,8 +13,8 @@ ghost use Rattle.mc_types.specs.Knows.{Knows};
 
 use crate::declared::Declared;
 use crate::declaring::{
-    address_of, constant_entity, constant_fault, heading_fault, parameter_fault, priority_fault,
-    result_said, type_entity, value_entity, variable_fault,
+    address_of, constant_entity, constant_fault, heading_fault, local_type_fault, parameter_fault,
+    priority_fault, result_said, type_entity, value_entity, variable_fault,
 };
 use crate::known::name_meaning;
 use crate::lookup::Known;
@@ -80,7 +80,7 @@ pub fn known<'k>(uses: &'k Uses, entities: &'k Entities, declared: &'k Declared)
 
 // A variable, and its fault.
 fn variable(declared: &mut Declared, within: u16, site: Site, id: &Id) -> Result<Said, Memory>
-    ensures said { IfOk result (λ said. said ≡ statement (or_else (addresses_fault site.entry.parts.now) (local_fault declared.old.types site.entry.around.code_at (part site.entry.typed.now site.entry.numbers.now 0) (type_in_of (part site.entry.typed.now site.entry.numbers.now 0).meaning)))) }
+    ensures said { IfOk result (λ said. said ≡ statement (or_else (addresses_fault site.entry.parts.now) (local_fault declared.old.types site.entry.around.code_at (part site.entry.typed.now site.entry.numbers.now 0)))) }
     ensures new { OnOk result (declared.new ≡ with_variable within site.entry.around.code_at id.now.place (address_of site.entry.parts.now) (type_in_of (part site.entry.typed.now site.entry.numbers.now 0).meaning) declared.old) }
 {
     let first = part(site.typed, site.numbers, 0);
@@ -118,10 +118,10 @@ fn result_type(declared: &mut Declared, part: Typed) -> Said
 
 // The heading of a procedure or a process, and its fault.
 fn heading(declared: &mut Declared, sort: CodeSort, vector: Typed) -> Result<Said, Memory>
-    ensures said { IfOk result (λ said. said ≡ statement (heading_fault declared.old.types declared.old.slots (code_sort_of sort) vector)) }
+    ensures said { IfOk result (λ said. said ≡ statement (heading_fault declared.old.types declared.old.wanted (code_sort_of sort) vector)) }
     ensures new { OnOk result (declared.new ≡ with_heading (code_sort_of sort) vector declared.old) }
 {
-    let fault = heading_fault(declared.types(), declared.slots(), sort, vector);
+    let fault = heading_fault(declared.types(), declared.wanted(), sort, vector);
     declared.add_heading(sort, vector)?;
     Ok(statement(fault))
 }
@@ -163,12 +163,16 @@ pub fn declare(
             Ok(type_named(id.place, name_meaning(known, site.around, id)))
         }
         Construct::Enumeration(values) => declared.enumeration(site.place, values),
-        Construct::EnumerationValue(_) | Construct::TypeDeclaration(_) => Ok(statement(None)),
+        Construct::EnumerationValue(_) => Ok(statement(None)),
         Construct::Range => Ok(bounds_of(declared.types(), first, second)),
         Construct::Array => declared.arrays(site.place, site.parts),
         Construct::Record => declared.record_type(site.place, pieces, site.typed, site.numbers),
-        Construct::FieldGroup(_) => { Ok(field_type(declared.types(), site.around.code_at, first)) }
+        Construct::FieldGroup(_) => Ok(field_type(declared.types(), first)),
         Construct::Constant(_) => Ok(statement(constant_fault(first))),
+        Construct::TypeDeclaration(_) => Ok(statement(local_type_fault(
+            site.around.code_at,
+            first,
+        ))),
         Construct::Variable(id) => variable(declared, within, site, id),
         Construct::Parameter(passing, id) => {
             parameter(declared, passing, type_in(first.meaning), id)

@@ -171,11 +171,11 @@ impl Declared {
         self.procedures.as_slice()
     }
 
-    /// The parameters and the local variables of the procedure or the process whose declarations stand here.
-    pub fn slots(&self) -> &[Slot]
-        ensures { result.now ≡ self.now.slots }
+    /// What the procedure or the process takes, whose declarations stand here.
+    pub fn wanted(&self) -> &[Wanted]
+        ensures { result.now ≡ self.now.wanted }
     {
-        self.slots.as_slice()
+        self.wanted.as_slice()
     }
 
     /// An enumeration of so many values.
@@ -274,10 +274,16 @@ impl Declared {
     }
 
     // One more thing that the procedure or the process takes.
-    fn add_wanted(&mut self, passing: Passing, type_of: Option<u32>) -> Result<(), Memory>
-        ensures { OnOk result (self.new ≡ with_wanted (passing_of passing) type_of self.old) }
+    fn add_wanted(
+        &mut self,
+        passing: Passing,
+        place: Place,
+        type_of: Option<u32>,
+    ) -> Result<(), Memory>
+        ensures { OnOk result (self.new ≡ with_wanted (passing_of passing) place type_of self.old) }
     {
         self.wanted.push(Wanted {
+            at: place,
             type_of,
             by_name: passing == Passing::ByName,
         })?;
@@ -293,7 +299,7 @@ impl Declared {
     ) -> Result<(), Memory>
         ensures { OnOk result (self.new ≡ with_parameter (passing_of passing) place type_of self.old) }
     {
-        self.add_wanted(passing, type_of)?;
+        self.add_wanted(passing, place, type_of)?;
         let Some(type_of) = type_of else {
             return Ok(());
         };

@@ -1,7 +1,7 @@
 // The rules of declarations: their faults, and what they declare.
 
 ghost use Rattle.std.specs.Prelude.{◌≡◌, IfOk};
-ghost use Rattle.mc_prog.specs.Declarations.{address_of, addresses_fault, type_in, constant_entity, constant_fault, fixed_entity, heading_fault, local_fault, parameter_fault, priority_fault, process_fault, process_parameter, result_said, text_fault, type_entity};
+ghost use Rattle.mc_prog.specs.Declarations.{address_of, addresses_fault, constant_entity, constant_fault, fixed_entity, heading_fault, local_fault, local_type_fault, parameter_fault, priority_fault, process_fault, process_parameter, result_said, text_fault, type_entity};
 ghost use Rattle.mc_prog.specs.Said.{or_else};
 ghost use Rattle.mc_prog.specs.DeclarationTypes.{ordinal, scalar_in, value_entity, value_of};
 ghost use Rattle.mc_pieces.specs.Constructs.{code_sort_of};
@@ -9,10 +9,10 @@ ghost use Rattle.mc_pieces.specs.Constructs.{code_sort_of};
 use crate::constants::{address_fault, fixed_fault, word_of};
 use crate::said::{UNKNOWN, fault_at, fine, wrong};
 use crate::types::{holds_signal, is_scalar};
-use crate::written::type_in;
+use crate::written::signal_fault;
 use mc_pieces::piece::CodeSort;
-use mc_prog::program::{Slot, SlotKind, TypeInfo};
-use mc_prog::typing::{Entity, Meaning, Said, Typed};
+use mc_prog::program::TypeInfo;
+use mc_prog::typing::{Change, Entity, Meaning, Said, Typed, Wanted};
 use mc_tree::fault::{Code, Fault};
 use mc_tree::place::Place;
 use mc_word::Word;
@@ -58,13 +58,21 @@ pub fn type_entity(meaning: Meaning) -> Entity
     }
 }
 
-// A local variable holds no signal.
+// A local variable has no signal.
 fn local_fault(types: &[TypeInfo], code: Option<Place>, part: Typed) -> Option<Fault>
-    ensures { result ≡ local_fault types.now code part (type_in part.meaning) }
+    ensures { result ≡ local_fault types.now code part }
 {
     code?;
-    match type_in(part.meaning) {
-        Some(t) if holds_signal(types, t) => fault_at(Code::Y1, part.place),
+    signal_fault(types, part)
+}
+
+/// The fault of a declared type: a local one has no record with a signal.
+pub fn local_type_fault(code: Option<Place>, part: Typed) -> Option<Fault>
+    ensures { result ≡ local_type_fault code part }
+{
+    code?;
+    match part.meaning {
+        Meaning::Unknown(Change::Never) => fault_at(Code::Y1, part.place),
         _ => None,
     }
 }
@@ -76,7 +84,7 @@ pub fn variable_fault(
     parts: &[Typed],
     part: Typed,
 ) -> Option<Fault>
-    ensures { result ≡ or_else (addresses_fault parts.now) (local_fault types.now code part (type_in part.meaning)) }
+    ensures { result ≡ or_else (addresses_fault parts.now) (local_fault types.now code part) }
 {
     if let Some(address) = parts.get(1)
         && let Some(fault) = address_fault(*address)
@@ -115,23 +123,25 @@ pub fn result_said(types: &[TypeInfo], part: Typed) -> Said
     }
 }
 
-// A process takes scalar values alone.
-fn process_parameter(types: &[TypeInfo], slot: Slot) -> Option<Fault>
-    ensures { result ≡ process_parameter types.now slot.kind slot.type_of slot.at }
+// A process takes scalar values alone; `var` is a fault also where the type is not known.
+fn process_parameter(types: &[TypeInfo], wanted: Wanted) -> Option<Fault>
+    ensures { result ≡ process_parameter types.now wanted }
 {
-    match slot.kind {
-        SlotKind::Variable => fault_at(Code::Y6, slot.at),
-        SlotKind::Constant if !is_scalar(types, slot.type_of) => fault_at(Code::Y6, slot.at),
+    if wanted.by_name {
+        return fault_at(Code::Y6, wanted.at);
+    }
+    match wanted.type_of {
+        Some(t) if !is_scalar(types, t) => fault_at(Code::Y6, wanted.at),
         _ => None,
     }
 }
 
 // The first fault of a process's parameters.
-fn process_fault(types: &[TypeInfo], slots: &[Slot]) -> Option<Fault>
-    ensures { result ≡ process_fault types.now slots.now }
+fn process_fault(types: &[TypeInfo], wanted: &[Wanted]) -> Option<Fault>
+    ensures { result ≡ process_fault types.now wanted.now }
 {
-    for slot in slots {
-        let fault = process_parameter(types, *slot);
+    for parameter in wanted {
+        let fault = process_parameter(types, *parameter);
         if fault.is_some() {
             return fault;
         }
@@ -142,15 +152,15 @@ fn process_fault(types: &[TypeInfo], slots: &[Slot]) -> Option<Fault>
 /// The fault of a heading: of a process's parameters, or of a vector.
 pub fn heading_fault(
     types: &[TypeInfo],
-    slots: &[Slot],
+    wanted: &[Wanted],
     sort: CodeSort,
     vector: Typed,
 ) -> Option<Fault>
-    ensures { result ≡ heading_fault types.now slots.now (code_sort_of sort) vector }
+    ensures { result ≡ heading_fault types.now wanted.now (code_sort_of sort) vector }
 {
     match sort {
         CodeSort::Procedure => None,
-        CodeSort::Process => process_fault(types, slots),
+        CodeSort::Process => process_fault(types, wanted),
         CodeSort::Driver => address_fault(vector),
     }
 }

@@ -9,7 +9,7 @@ use crate::said::{UNKNOWN, fine, type_of, value_by, wants_type, wrong};
 use crate::types::shape_of;
 use mc_prog::program::{FieldInfo, Shape, TypeInfo};
 use mc_prog::typing::{
-    Answer, BITS, BOOLEAN, Callable, INTEGER, Meaning, Said, Takes, Typed, Variable, Wanted,
+    Answer, BITS, BOOLEAN, Callable, Change, INTEGER, Meaning, Said, Takes, Typed, Variable, Wanted,
 };
 use mc_tree::fault::Code;
 use mc_tree::tree::Id;
@@ -39,13 +39,18 @@ fn lost(meaning: Meaning) -> Meaning
     }
 }
 
-// A part with a fault in it; whether it may be changed is known where it is one of a variable.
+// A part with a fault in it; whether it may be changed is known where it is one of a variable. A bit of a constant may not,
+// and a bit of the function around stays one.
 fn unknown(part: Meaning) -> Meaning
     ensures { result ≡ unknown part }
 {
     match part {
         Meaning::Variable(variable) => Meaning::Unknown(variable.change),
         Meaning::Bit(change) => Meaning::Unknown(change),
+        Meaning::Constant(_, _) | Meaning::Trap(_) | Meaning::Value(_) => {
+            Meaning::Unknown(Change::Never)
+        }
+        Meaning::OwnBit => part,
         _ => UNKNOWN,
     }
 }

@@ -134,6 +134,7 @@ fn meaning_of(known: Known, around: Around, declared: Place, entity: Entity) -> 
     ensures { (k : WhatIsKnown) → IsKnown k known.entry → result ≡ meaning_of k (around_of around) declared entity }
 {
     match entity {
+        Entity::Ahead | Entity::Module(_) => Meaning::NoValue,
         Entity::Faulty => Meaning::Unknown(Change::May),
         Entity::Constant(type_of, word) => Meaning::Constant(type_of, word),
         Entity::Type(number) => Meaning::Type(number),
@@ -149,7 +150,6 @@ fn meaning_of(known: Known, around: Around, declared: Place, entity: Entity) -> 
         }),
         Entity::Procedure(callable) => own_or(is_code(around.code_at, declared), callable),
         Entity::Process(number) => Meaning::Process(number),
-        Entity::Module(_) => Meaning::NoValue,
     }
 }
 

@@ -1,29 +1,27 @@
 // The fields of records.
 
 ghost use Rattle.std.specs.Prelude.{◌≡◌, OnOk, IfOk, option_map, slice_get};
-ghost use Rattle.mc_prog.specs.Declarations.{group_names, members_of, names_by, record_by, record_type, with_field, with_fields, with_group};
+ghost use Rattle.mc_prog.specs.Declarations.{any_signal, group_names, members_of, names_by, record_by, record_type, with_field, with_fields, with_group};
 ghost use Rattle.mc_types.specs.Views.{built_of, ids_of};
 
 use crate::parts::typed_at;
-use crate::said::{UNKNOWN, fine, wrong};
-use crate::types::{holds_signal, words_of};
-use crate::written::{built, type_in};
+use crate::said::{UNKNOWN, fine};
+use crate::types::words_of;
+use crate::written::{built, has_signal, type_in};
 use mc_pieces::piece::{Construct, Piece};
 use mc_prog::program::{FieldInfo, Fields, Shape, TypeInfo};
-use mc_prog::typing::{Meaning, Said, Typed};
-use mc_tree::fault::Code;
+use mc_prog::typing::{Change, Meaning, Said, Typed};
 use mc_tree::place::Place;
 use mc_tree::tree::{Id, Ids};
 use mc_word::bytes::{Memory, Text};
 use std::alloc::Global;
 use std::marker::Model;
 
-/// The fields of a record so far, their words, and whether one holds a signal.
+/// The fields of a record so far, and their words.
 #[derive(Drop)]
 struct Members {
     fields: Vec<FieldInfo>,
     words: u32,
-    signals: bool,
 }
 
 impl Model for Members {
@@ -31,7 +29,7 @@ impl Model for Members {
 
     ghost Value = { RecordMembers };
 
-    ghost view = { λ m. record { fields = m.fields.items; words = m.words; signals = m.signals } };
+    ghost view = { λ m. record { fields = m.fields.items; words = m.words } };
 }
 
 impl Members {
@@ -91,12 +89,23 @@ fn with_group(
     let (Some(names), Some(t), Some(mut members)) = (names, type_of, members) else {
         return Ok(None);
     };
-    members.signals = members.signals || holds_signal(types, t);
     members.add_all(alloc, t, words_of(types, t), names)?;
     Ok(Some(members))
 }
 
-/// A record, by the groups of its fields.
+// Whether one of these groups of fields has a signal.
+fn any_signal(types: &[TypeInfo], typed: &[Typed], groups: &[u32]) -> bool
+    ensures { result ≡ any_signal types.now typed.now groups.now }
+{
+    for number in groups {
+        if has_signal(types, typed_at(typed, *number).meaning) {
+            return true;
+        }
+    }
+    false
+}
+
+/// A record, by the groups of its fields; one with a signal is no type.
 pub fn record_type(
     alloc: Global,
     types: &mut Vec<TypeInfo>,
@@ -107,10 +116,12 @@ pub fn record_type(
 ) -> Result<Said, Memory>
     ensures { IfOk result (λ said. built_of said types.new.items ≡ record_type types.old.items place pieces.now typed.now groups.now) }
 {
+    if any_signal(types.as_slice(), typed, groups) {
+        return Ok(fine(Meaning::Unknown(Change::Never)));
+    }
     let mut members = Some(Members {
         fields: Vec::new(alloc),
         words: 0,
-        signals: false,
     });
     for number in groups {
         let names = names_at(pieces, *number);
@@ -131,10 +142,7 @@ fn record_by(
     let Some(members) = members else {
         return Ok(fine(UNKNOWN));
     };
-    if members.signals {
-        return Ok(wrong(UNKNOWN, Code::Y1, place));
-    }
-    let Members { fields, words, .. } = members;
+    let Members { fields, words } = members;
     let info = TypeInfo {
         words,
         shape: Shape::Record(Fields { fields }),

@@ -96,7 +96,7 @@ impl Entities {
         self.entities
             .get(&(place.line, place.column))
             .copied()
-            .unwrap_or(Entity::Faulty)
+            .unwrap_or(Entity::Ahead)
     }
 }
 

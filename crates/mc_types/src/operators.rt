@@ -1,7 +1,7 @@
 // The operators: what types they take and give, and what they give of constants.
 
 ghost use Rattle.std.specs.Prelude.{◌≡◌};
-ghost use Rattle.mc_prog.specs.Operators.{alone, combined, combined_right, computed, constant_by, gives, holds, is_decided, not_, operands_fault, operated, signed, trapped_right, unless, value_right};
+ghost use Rattle.mc_prog.specs.Operators.{alone, combined, combined_right, computed, constant_by, gives, is_decided, not_, operands_fault, operated, signed, trapped_right, unless, value_right};
 ghost use Rattle.mc_prog.specs.Takes.{of_product, of_sum};
 ghost use Rattle.mc_prog.specs.Said.{type_of};
 ghost use Rattle.mc_types.specs.Outcomes.{outcome_of, word_by};
@@ -9,10 +9,8 @@ ghost use Rattle.mc_types.specs.Outcomes.{outcome_of, word_by};
 use crate::said::{fine, type_of, wants, wants_type};
 use mc_prog::program::TypeInfo;
 use mc_prog::typing::{Allowed, BOOLEAN, INTEGER, Meaning, Operator, Said, Typed};
-use mc_prog::values::{
-    Trap, add, divide, holds_of_integers, holds_of_words, modulo, multiply, negate, subtract,
-};
-use mc_tree::expression::{Adding, Multiplying, Relation, Sign};
+use mc_prog::values::{Trap, add, divide, holds, modulo, multiply, negate, subtract};
+use mc_tree::expression::{Adding, Multiplying, Sign};
 use mc_tree::fault::{Code, Fault};
 use mc_word::Word;
 
@@ -57,7 +55,8 @@ fn gives(operator: Operator, t: u32) -> u32
     }
 }
 
-// Of two operands that differ, the right one has the fault.
+// Of two operands that differ, the right one has the fault. Where the left one's type is not known, the right one's is one that
+// the operator takes.
 fn operands_fault(
     types: &[TypeInfo],
     operator: Operator,
@@ -70,19 +69,8 @@ fn operands_fault(
         Some(fault) => Some(fault),
         None => match type_of(left.meaning) {
             Some(t) => wants_type(types, t, Code::Y1, right),
-            None => None,
+            None => wants(types, Allowed::Operand(operator), Code::Y1, right),
         },
-    }
-}
-
-// Whether a relation holds of two words of a type.
-fn holds(t: u32, relation: Relation, a: Word, b: Word) -> bool
-    ensures { result ≡ holds t relation a b }
-{
-    if t == INTEGER {
-        holds_of_integers(relation, a, b)
-    } else {
-        holds_of_words(relation, a, b)
     }
 }
 
@@ -99,7 +87,7 @@ fn computed(operator: Operator, t: u32, a: Word, b: Word) -> Result<Word, Trap>
         Operator::And => Ok(a & b),
         Operator::Or => Ok(a | b),
         Operator::Xor => Ok(a ^ b),
-        Operator::Compare(relation) => Ok(Word::from(holds(t, relation, a, b))),
+        Operator::Compare(relation) => Ok(Word::from(holds(relation, a, b))),
     }
 }
 

@@ -2,14 +2,14 @@
 
 ghost use Rattle.std.specs.Prelude.{◌≡◌, ◌++◌, [], IfOk};
 ghost use Rattle.mc_word.specs.Word.{signed_of};
-ghost use Rattle.mc_prog.specs.Declarations.{Built, arrays, array_over, bounds_by, bounds_of, built, enumeration, field_type, ordered_words, span, type_in, type_named};
+ghost use Rattle.mc_prog.specs.Declarations.{Built, arrays, array_over, bounds_by, bounds_of, built, enumeration, field_meaning, field_type, has_signal, left_of, ordered_words, signal_fault, span, spoiled, type_in, type_named};
 ghost use Rattle.mc_types.specs.Views.{built_of};
 
-use crate::said::{UNKNOWN, fine, wrong};
+use crate::said::{UNKNOWN, fault_at, fine, wrong};
 use crate::types::{holds_signal, is_ordered, words_of};
 use mc_prog::program::{Shape, TypeInfo};
-use mc_prog::typing::{INTEGER, Meaning, Said, Typed};
-use mc_tree::fault::Code;
+use mc_prog::typing::{Change, INTEGER, Meaning, Said, Typed};
+use mc_tree::fault::{Code, Fault};
 use mc_tree::place::Place;
 use mc_word::Word;
 use mc_word::bytes::Memory;
@@ -39,12 +39,23 @@ pub fn type_in(meaning: Meaning) -> Option<u32>
     }
 }
 
+// What is left of a type with a fault in it, by whether a signal was to stand there.
+fn left_of(signal: bool) -> Meaning
+    ensures { result ≡ left_of signal }
+{
+    if signal {
+        Meaning::Unknown(Change::Elsewhere)
+    } else {
+        UNKNOWN
+    }
+}
+
 /// One more type, unless it is too large.
 pub fn built(types: &mut Vec<TypeInfo>, place: Place, info: TypeInfo) -> Result<Said, Memory>
     ensures { IfOk result (λ said. built_of said types.new.items ≡ built types.old.items place info) }
 {
     if info.words > LIMIT {
-        return Ok(wrong(UNKNOWN, Code::Y4, place));
+        return Ok(wrong(left_of(info.holds_signal), Code::Y4, place));
     }
     let number = u32::try_from(types.len()).map_err(|_| Memory)?;
     types.push(info)?;
@@ -95,16 +106,56 @@ pub fn bounds_of(types: &[TypeInfo], low: Typed, high: Typed) -> Said
     wrong(UNKNOWN, Code::Y4, low.place)
 }
 
-/// The type of fields, which hold no signals. In a procedure or a process that is a fault of the record.
-pub fn field_type(types: &[TypeInfo], code: Option<Place>, part: Typed) -> Said
-    ensures { result ≡ field_type types.now code part part.meaning }
+/// Whether a signal stands, or was to stand, in what a written type means.
+pub fn has_signal(types: &[TypeInfo], meaning: Meaning) -> bool
+    ensures { result ≡ has_signal types.now meaning }
 {
-    match part.meaning {
-        Meaning::Type(t) if code.is_none() && holds_signal(types, t) => {
-            wrong(UNKNOWN, Code::Y1, part.place)
-        }
-        Meaning::Type(t) => fine(Meaning::Type(t)),
-        _ => fine(UNKNOWN),
+    match meaning {
+        Meaning::Type(t) => holds_signal(types, t),
+        Meaning::Unknown(change) => change != Change::May,
+        _ => false,
+    }
+}
+
+/// The fault of a type that has a signal, where none may be.
+pub fn signal_fault(types: &[TypeInfo], part: Typed) -> Option<Fault>
+    ensures { result ≡ signal_fault types.now part.place part.meaning }
+{
+    if has_signal(types, part.meaning) {
+        fault_at(Code::Y1, part.place)
+    } else {
+        None
+    }
+}
+
+// What the type of fields means.
+fn field_meaning(meaning: Meaning) -> Meaning
+    ensures { result ≡ field_meaning meaning }
+{
+    match meaning {
+        Meaning::Type(_) | Meaning::Unknown(_) => meaning,
+        _ => UNKNOWN,
+    }
+}
+
+/// The type of fields, which have no signals.
+pub fn field_type(types: &[TypeInfo], part: Typed) -> Said
+    ensures { result ≡ field_type types.now part }
+{
+    Said {
+        meaning: field_meaning(part.meaning),
+        fault: signal_fault(types, part),
+    }
+}
+
+// What is left of the elements of an array with a fault.
+fn spoiled(types: &[TypeInfo], element: Meaning) -> Meaning
+    ensures { result ≡ spoiled types.now element }
+{
+    match element {
+        Meaning::Type(t) => left_of(holds_signal(types, t)),
+        Meaning::Unknown(_) => element,
+        _ => UNKNOWN,
     }
 }
 
@@ -126,21 +177,22 @@ fn array_over(
 {
     let (Meaning::Bounds(t, low, high), Meaning::Type(element)) = (range, inner.meaning) else {
         return Ok(Said {
-            meaning: UNKNOWN,
+            meaning: spoiled(types.as_slice(), inner.meaning),
             fault: inner.fault,
         });
     };
     let words = words_of(types.as_slice(), element);
+    let signals = holds_signal(types.as_slice(), element);
     match span(low, high).checked_mul(words) {
         Some(words) => {
             let info = TypeInfo {
                 words,
                 shape: Shape::Array(t, signed(low), signed(high), element),
-                holds_signal: holds_signal(types.as_slice(), element),
+                holds_signal: signals,
             };
             built(types, place, info)
         }
-        None => Ok(wrong(UNKNOWN, Code::Y4, place)),
+        None => Ok(wrong(left_of(signals), Code::Y4, place)),
     }
 }
 

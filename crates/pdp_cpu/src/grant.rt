@@ -4,9 +4,9 @@ ghost use Rattle.std.specs.Prelude.{◌≡◌, ◌<◌, ◌≤◌, ◌+◌, IfOk
 ghost use Rattle.arrayvec.specs.ArrayVec.{array_vec_len};
 ghost use Rattle.pdp_def.specs.Does.{bus, Kept};
 ghost use Rattle.pdp_def.specs.Perform.{enters, enters_at, traps};
-ghost use Rattle.pdp_def.specs.Interrupt.{takes_over, interrupted};
+ghost use Rattle.pdp_def.specs.Interrupt.{is_outside, takes_over, interrupted};
 
-use crate::access::{is_bad, put_word};
+use crate::access::{MEMORY_END, is_bad, put_word};
 use arrayvec::ArrayVec;
 use mc_word::Word;
 use pdp_def::outcome::Outcome;
@@ -14,8 +14,16 @@ use pdp_def::processor::Core;
 use pdp_dev::devices::{Devices, Request};
 use pdp_dev::entry::Entry;
 
+// Whether memory has no word at this address: at an odd one, or at one above it.
+fn is_outside(a: Word) -> bool
+    ensures { result ≡ is_outside a }
+{
+    a % 2 == 1 || a >= MEMORY_END
+}
+
 /// Grants a request: PS and PC are pushed, and the vector's two words are loaded into PC and PS.
-/// `Ran`, or `BusFault` at the first bad address of the two pushes, where nothing changes.
+/// `Ran`, or `BusFault` at the first address of these: of the vector's two words where it lies outside memory, of the two
+/// pushes where it is bad. There nothing changes.
 #[tactic(auto, unfolding(pdp_def::specs::Interrupt::interrupted))]
 pub fn interrupt(
     core: &mut Core,
@@ -23,10 +31,15 @@ pub fn interrupt(
     request: Request,
     said: &mut ArrayVec<Entry, 8>,
 ) -> Outcome
-    requires vector { request.vector < 256 }
-    requires room { array_vec_len said.old ≤ 5 }
-    ensures effect { interrupted core.old devices.old said.old.items request.vector ≡ record { value = result; bus = bus core.new devices.new said.new.items } }
+    requires { array_vec_len said.old ≤ 5 }
+    ensures { interrupted core.old devices.old said.old.items request.vector ≡ record { value = result; bus = bus core.new devices.new said.new.items } }
 {
+    if is_outside(request.vector) {
+        return Outcome::BusFault(request.vector);
+    }
+    if is_outside(request.vector + 2) {
+        return Outcome::BusFault(request.vector + 2);
+    }
     let first = core.register(6).wrapping_sub(2);
     let second = core.register(6).wrapping_sub(4);
     if is_bad(first) {
@@ -49,7 +62,7 @@ fn take_over(
     first: Word,
     second: Word,
 )
-    requires vector { request.vector < 256 }
+    requires vector { request.vector + 2 < 57344 }
     requires room { array_vec_len said.old ≤ 5 }
     ensures { takes_over core.old devices.old said.old.items request.vector first second ≡ bus core.new devices.new said.new.items }
 {
@@ -68,7 +81,7 @@ fn enter(
     first: Word,
     second: Word,
 )
-    requires vector { vector < 256 }
+    requires vector { vector + 2 < 57344 }
     requires room { array_vec_len said.old ≤ 6 }
     ensures { enters vector first second (bus core.old devices.old said.old.items) ≡ bus core.new devices.new said.new.items }
 {

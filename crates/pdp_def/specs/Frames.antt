@@ -32,7 +32,7 @@ use Rattle.pdp_def.specs.Does.{Bus, bus, After, Access, Does, then_do, ◌>>=◌
 use Rattle.pdp_def.specs.Operands.{plus, step_of, step_on, step_back, next_word, indexed, deferred, mode_of, address, locate, fetch, put, put_moved, push, pop}
 use Rattle.pdp_def.specs.Codes.{has_c, cleared_codes, added_codes, combined, holds}
 use Rattle.pdp_def.specs.Perform.{set_codes, sets, status, set_status, moves, compares, combines, clears, tests, extends, alters, combines_register, shifts, computes_pair, reserved, computes_even_pair, goes_to, branches, counts_down, jumps, calls_at, calls, returns, resumes, enters, enters_at, traps, waits, resets, masks, row, performs, attempt, or_nothing, effect}
-use Rattle.pdp_def.specs.Interrupt.{takes_over, grants_at, interrupted}
+use Rattle.pdp_def.specs.Interrupt.{takes_over, is_outside, pushes_at, grants_at, interrupted}
 
 -- the same state, with these entries in front of the journal
 abbrev pub behind : List Entry → Bus → Bus
@@ -465,11 +465,16 @@ takes_over_behind c d xs ys vector first second =
     let e0 : bus c g ((xs ++ ys) ++ Grant vector ∷ []) ≡ behind xs b0 = ap (λ (l : List Entry). bus c g l) (append_assoc xs ys (Grant vector ∷ [])) in
     ap (enters vector first second) e0 ∙ enters_behind vector first second xs b0
 
-grants_at_behind : (c : CoreState) (d : Devices) (xs ys : List Entry) (vector first second : ℕ) → grants_at c d (xs ++ ys) vector first second ≡ access_behind xs (grants_at c d ys vector first second)
-grants_at_behind c d xs ys vector first second =
+pushes_at_behind : (c : CoreState) (d : Devices) (xs ys : List Entry) (vector first second : ℕ) → pushes_at c d (xs ++ ys) vector first second ≡ access_behind xs (pushes_at c d ys vector first second)
+pushes_at_behind c d xs ys vector first second =
     if_under (access_behind xs) (is_bad first) _ _ _ _ refl
     (if_under (access_behind xs) (is_bad second) _ _ _ _ refl
     (ap (λ (b : Bus). let r : Access Outcome = Ok (record { value = Ran; bus = b }) in r) (takes_over_behind c d xs ys vector first second)))
+
+grants_at_behind : (c : CoreState) (d : Devices) (xs ys : List Entry) (vector first second : ℕ) → grants_at c d (xs ++ ys) vector first second ≡ access_behind xs (grants_at c d ys vector first second)
+grants_at_behind c d xs ys vector first second =
+    if_under (access_behind xs) (is_outside vector) _ _ _ _ refl
+    (if_under (access_behind xs) (is_outside (vector + 2)) _ _ _ _ refl (pushes_at_behind c d xs ys vector first second))
 
 -- the effect of a grant behind a journal
 pub interrupted_behind : (c : CoreState) (d : Devices) (xs ys : List Entry) (vector : ℕ) → interrupted c d (xs ++ ys) vector ≡ after_behind xs (interrupted c d ys vector)

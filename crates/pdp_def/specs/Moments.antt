@@ -6,7 +6,7 @@ use Rattle.pdp_dev.specs.declared.devices.Request.{Request}
 use Rattle.pdp_dev.specs.declared.entry.Event.{Event}
 use Rattle.pdp_dev.specs.declared.entry.Entry.{Entry}
 use Rattle.pdp_dev.specs.declared.entry.Entry.TheVariants.{Event as EventEntry}
-use Rattle.pdp_dev.specs.Devices.{happened, request_of}
+use Rattle.pdp_dev.specs.Devices.{happened, IsEvent, request_of}
 use Rattle.pdp_def.specs.declared.outcome.Outcome.{Outcome}
 use Rattle.pdp_def.specs.declared.outcome.Outcome.TheVariants.{Ran, Idle, Halt, BusFault, Reserved}
 use Rattle.pdp_def.specs.State.{CoreState}
@@ -71,9 +71,9 @@ is_above priority (Some r) = nat_lt priority r.level
 abbrev pub priority_of : ℕ → ℕ
 priority_of ps = ps / 32 % 8
 
--- the moments that may come next: after a stop, none
+-- the moments that may come next: after a stop, none; an event brings a byte
 abbrev pub IsPossible : MachineState → Moment → Type 0
-IsPossible m (Occurs e) = m.stop ≡ None
+IsPossible m (Occurs e) = (m.stop ≡ None) × IsEvent e
 IsPossible m Grants = (m.stop ≡ None) × (is_above (priority_of m.core.ps) (request_of m.devices) ≡ true)
 IsPossible m Executes =
     (m.stop ≡ None) × (is_above (priority_of m.core.ps) (request_of m.devices) ≡ false) × (m.core.waiting ≡ false)

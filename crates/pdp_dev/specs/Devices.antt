@@ -1,5 +1,5 @@
 -- The devices: what reads, writes, events, grants and a reset do to them.
-use Rattle.std.specs.Prelude.{ℕ, ◌+◌, ◌/◌, ◌%◌, ◌==◌, Bool, true, false, ◌&&◌, ◌||◌, not, Option, Some, None, if◌then◌else◌}
+use Rattle.std.specs.Prelude.{ℕ, ◌<◌, ◌+◌, ◌/◌, ◌%◌, ◌==◌, Bool, true, false, ◌&&◌, ◌||◌, not, Option, Some, None, if◌then◌else◌}
 use Rattle.pdp_dev.specs.declared.devices.Line.{Line}
 use Rattle.pdp_dev.specs.declared.devices.Reader.{Reader}
 use Rattle.pdp_dev.specs.declared.devices.Devices.{Devices}
@@ -122,6 +122,19 @@ happened d PunchEvent = record d { punch = set_line d.punch true d.punch.enable 
 happened d (ReaderEvent b) = record d { reader = reads_byte d.reader b }
 happened d Clock =
     record d { clock = record { flag = true; enable = d.clock.enable; request = d.clock.request || d.clock.enable } }
+
+-- a byte, where one comes in
+abbrev pub IsByte : Option ℕ → Type 0
+IsByte None = Unit {0}
+IsByte (Some b) = b < 256
+
+-- what can happen: a byte that comes in is less than 256
+abbrev pub IsEvent : Event → Type 0
+IsEvent (Key b) = b < 256
+IsEvent (ReaderEvent b) = IsByte b
+IsEvent PrinterEvent = Unit {0}
+IsEvent PunchEvent = Unit {0}
+IsEvent Clock = Unit {0}
 
 -- the pending request: the clock's where it stands, else the first of reader, punch, keyboard, printer (order own)
 abbrev pub request_of : Devices → Option Request

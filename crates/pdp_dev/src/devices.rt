@@ -2,7 +2,7 @@
 
 ghost use Rattle.std.specs.Prelude.{◌≡◌, ◌≤◌, ◌<◌, false, is_some, not, IfSome, IsSome};
 ghost use Rattle.pdp_dev.specs.Register.{register_at};
-ghost use Rattle.pdp_dev.specs.Devices.{bit, asks, set_line, set_reader, status_of, reader_status, takes_byte, command_reader, command_clock, reads_byte, read_of, after_read, written, said_at, happened, request_of, granted, opening_devices};
+ghost use Rattle.pdp_dev.specs.Devices.{bit, asks, set_line, set_reader, status_of, reader_status, takes_byte, command_reader, command_clock, reads_byte, read_of, after_read, written, said_at, happened, IsEvent, request_of, granted, opening_devices};
 
 use crate::entry::{Entry, Event, Port};
 use crate::register::{Register, register_of};
@@ -312,9 +312,10 @@ impl Devices {
         }
     }
 
-    /// A device does something by itself.
+    /// A device does something by itself; a byte that comes in is less than 256.
     pub fn happen(&mut self, event: Event)
-        ensures { self.new ≡ happened self.old event }
+        ensures after { self.new ≡ happened self.old event }
+        ensures event { IsEvent event }
     {
         match event {
             Event::Key(key) => {

@@ -4,5 +4,3 @@
 pub mod devices;
 pub mod entry;
 pub mod register;
-#[cfg(test)]
-mod tests;

@@ -3,5 +3,3 @@
 
 pub mod instr;
 pub mod table;
-#[cfg(test)]
-mod tests;

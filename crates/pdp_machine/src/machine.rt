@@ -4,6 +4,7 @@ ghost use Rattle.std.specs.Prelude.{◌≡◌, ◌<◌, ◌≤◌, ◌+◌, ◌/
 ghost use Rattle.arrayvec.specs.ArrayVec.{array_vec_len};
 ghost use Rattle.pdp_dev.specs.declared.entry.Entry.{Entry};
 ghost use Rattle.pdp_def.specs.Moments.{counted};
+ghost use Rattle.pdp_machine.specs.Made.{IsMade};
 ghost use Rattle.pdp_machine.specs.Opening.{opening_machine};
 ghost use Rattle.pdp_machine.specs.Timed.{IsTimed, IsAhead, AreAhead, IsLater, advance, turn, grants, executes, settled, idles, is_to_come, next_event, with_events, reader_comes, punch_comes, key_comes, printer_comes, clock_comes};
 
@@ -70,6 +71,7 @@ impl Machine {
     pub fn open(alloc: Global, image: &Image, script: &Script) -> Result<Machine, Memory>
         ensures value { IfOk result (λ m. m ≡ opening_machine image.now script.now) }
         ensures timed { IfOk result IsTimed }
+        ensures made { IfOk result (λ m. IsMade image.now script.now) }
     {
         Ok(Machine {
             core: open_core(alloc, image)?,
@@ -267,7 +269,6 @@ impl Machine {
     // The request is granted.
     #[tactic(auto, unfolding(crate::specs::Timed::grants))]
     fn grant(&mut self, request: Request, entries: &mut ArrayVec<Entry, 8>)
-        requires vector { request.vector < 256 }
         requires time { self.old.time < self.old.limit }
         requires later { IsLater self.old }
         requires room { array_vec_len entries.old ≤ 5 }

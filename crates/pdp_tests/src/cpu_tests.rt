@@ -13,6 +13,7 @@ use std::alloc::Global;
 use std::process::Abort;
 
 mod flow;
+mod grants;
 mod values;
 
 // A processor at 1000, where these words stand.

@@ -4,4 +4,8 @@
 #[cfg(test)]
 mod cpu_tests;
 #[cfg(test)]
+mod device_tests;
+#[cfg(test)]
+mod isa_tests;
+#[cfg(test)]
 mod machine_tests;

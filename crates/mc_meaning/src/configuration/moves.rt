@@ -1,10 +1,10 @@
 // Events, grants and choices, which are the steps besides those of evaluation.
 
-ghost use Rattle.std.specs.Prelude.{◌≡◌, IfOk, OnOk, OnErr, slice_get};
-ghost use Rattle.pdp_dev.specs.Devices.{request_of};
+ghost use Rattle.std.specs.Prelude.{◌≡◌, IfOk, OnOk, OnErr, slice_get, true};
+ghost use Rattle.pdp_dev.specs.Devices.{IsEvent, request_of};
 ghost use Rattle.mc_meaning.specs.Configuration.{can_grant, priority_at};
 ghost use Rattle.mc_meaning.specs.Kept.{configuration_of};
-ghost use Rattle.mc_meaning.specs.ProgramRuns.{Chooses, Grants, IsDone, IsStep, after_choice, after_event, grant, granted_to, is_ready_process, may_evaluate, nest_above, standing_at};
+ghost use Rattle.mc_meaning.specs.ProgramRuns.{CanChoose, IsDone, after_choice, after_event, grant, granted_to, is_ready_process, may_evaluate, nest_above, standing_at};
 
 use super::Config;
 use crate::config::{Mark, Nested};
@@ -29,25 +29,29 @@ impl Config {
         }
     }
 
-    /// Whether the pending request stands above the priority of the process that acts.
+    /// Whether no trap has happened, and the pending request stands above the priority of the process that acts.
     pub fn can_grant(&self) -> bool
         ensures { result ≡ can_grant (configuration_of self.now) }
     {
+        if self.trap.is_some() {
+            return false;
+        }
         match self.devices.pending() {
             Some(request) => self.priority_at(self.topmost()) < request.level,
             None => false,
         }
     }
 
-    /// Whether the topmost process may make an evaluation step.
+    /// Whether the topmost process may make an evaluation step, where it finds something to do.
     pub fn can_eval(&self) -> bool
         ensures { result ≡ may_evaluate (configuration_of self.now) }
     {
         self.trap.is_none() && !self.can_grant() && self.topmost().is_some()
     }
 
-    /// A device does something, and the journal says so.
+    /// A device does something, and the journal says so; a byte that comes in is less than 256.
     pub fn event(&mut self, event: Event) -> Result<(), Memory>
+        ensures event { IsEvent event }
         ensures ok { OnOk result (configuration_of self.new ≡ after_event (configuration_of self.old) event) }
         ensures err { OnErr result (configuration_of self.new ≡ configuration_of self.old) }
     {
@@ -103,10 +107,10 @@ impl Config {
 
     /// Makes the grant of the pending request, where it is possible, and says whether it was.
     pub fn grant(&mut self) -> Result<bool, Memory>
-        ensures ok { IfOk result (λ done. IsDone (IsStep (configuration_of self.old) Grants) (configuration_of self.new ≡ grant (configuration_of self.old) (request_of (configuration_of self.old).devices)) (configuration_of self.new ≡ configuration_of self.old) done) }
+        ensures ok { IfOk result (λ done. IsDone (can_grant (configuration_of self.old) ≡ true) (configuration_of self.new ≡ grant (configuration_of self.old) (request_of (configuration_of self.old).devices)) (configuration_of self.new ≡ configuration_of self.old) done) }
         ensures err { OnErr result (configuration_of self.new ≡ configuration_of self.old) }
     {
-        if self.trap.is_some() || !self.can_grant() {
+        if !self.can_grant() {
             return Ok(false);
         }
         if let Some(request) = self.devices.pending() {
@@ -127,7 +131,7 @@ impl Config {
 
     /// Chooses a ready process, where nothing acts and it is possible, and says whether it was.
     pub fn choose(&mut self, n: u32) -> bool
-        ensures { IsDone (IsStep (configuration_of self.old) (Chooses n)) (configuration_of self.new ≡ after_choice (configuration_of self.old) n) (configuration_of self.new ≡ configuration_of self.old) result }
+        ensures { IsDone (CanChoose (configuration_of self.old) n) (configuration_of self.new ≡ after_choice (configuration_of self.old) n) (configuration_of self.new ≡ configuration_of self.old) result }
     {
         if self.trap.is_some()
             || self.can_grant()

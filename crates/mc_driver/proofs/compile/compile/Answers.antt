@@ -3,8 +3,10 @@ use Rattle.std.specs.Prelude.{option_map}
 use Rattle.mc_shelf.specs.declared.ask.Ask.TheVariants.{Load, Save}
 use Rattle.mc_words.specs.Settings.{numbers_of}
 use Rattle.mc_driver.specs.declared.files.FileKind.TheVariants.{Settings}
-use Rattle.mc_driver.specs.Outside.{View, view, EndsSaving}
-use Rattle.mc_driver.specs.Answer.{AfterLoad, AfterReadingSettings, IsCompiledUnder, IsCompileAnswer, settings_load}
+use Rattle.mc_shelf.specs.Outside.{View}
+use Rattle.mc_driver.specs.Outside.{EndsSaving}
+use Rattle.mc_driver.specs.Stages.{AfterLoad, AfterReadingSettings, settings_load}
+use Rattle.mc_driver.specs.CompileAnswer.{IsCompiledUnder, IsCompileAnswer}
 use Rattle.mc_driver.proofs.Asking.{load_first}
 use Rattle.mc_driver.proofs.Endings.{refused_settings}
 use Rattle.mc_driver.proofs.Saving.{saves_none, after_settings_saving}
@@ -13,8 +15,8 @@ use Rattle.mc_driver.proofs.compile.compile.Goals as goal
 pub returns-in-None : goal.returns-in-None
 returns-in-None g c =
     let S = g.S.Shelf in
-    let v : View = view (S.files c.args.shelf.now) (S.printed c.args.shelf.now) (S.asked c.args.shelf.now) (S.spare c.args.shelf.now) (S.faults c.args.shelf.now) (S.longs c.args.shelf.now) in
-    let w : View = view (S.files c.compile_under.new.shelf) (S.printed c.compile_under.new.shelf) (S.asked c.compile_under.new.shelf) (S.spare c.compile_under.new.shelf) (S.faults c.compile_under.new.shelf) (S.longs c.compile_under.new.shelf) in
+    let v : View = S.seen c.args.shelf.now in
+    let w : View = S.seen c.compile_under.new.shelf in
     let source : List ℕ = c.args.source.now in
     let image : List ℕ = c.args.image.now in
     let is : option_map (λ t. t.now) c.args.settings ≡ None = ap (λ s. option_map (λ t. t.now) s) c.in-None.is in
@@ -23,26 +25,26 @@ returns-in-None g c =
 pub returns-in-Ok : goal.returns-in-Ok
 returns-in-Ok g c =
     let S = g.S.Shelf in
-    let v : View = view (S.files c.args.shelf.now) (S.printed c.args.shelf.now) (S.asked c.args.shelf.now) (S.spare c.args.shelf.now) (S.faults c.args.shelf.now) (S.longs c.args.shelf.now) in
-    let u : View = view (S.files c.load_settings.new.shelf) (S.printed c.load_settings.new.shelf) (S.asked c.load_settings.new.shelf) (S.spare c.load_settings.new.shelf) (S.faults c.load_settings.new.shelf) (S.longs c.load_settings.new.shelf) in
-    let w : View = view (S.files c.compile_under-in-Ok.new.shelf) (S.printed c.compile_under-in-Ok.new.shelf) (S.asked c.compile_under-in-Ok.new.shelf) (S.spare c.compile_under-in-Ok.new.shelf) (S.faults c.compile_under-in-Ok.new.shelf) (S.longs c.compile_under-in-Ok.new.shelf) in
+    let v : View = S.seen c.args.shelf.now in
+    let u : View = S.seen c.load_settings.new.shelf in
+    let w : View = S.seen c.compile_under-in-Ok.new.shelf in
     let source : List ℕ = c.args.source.now in
     let image : List ℕ = c.args.image.now in
     let is : option_map (λ t. t.now) c.args.settings ≡ Some c.in-Some.name.now = ap (λ s. option_map (λ t. t.now) s) c.in-Some.is in
     let bytes = c.in-Ok.ensures.ok in
     subst (λ (o : Option (List ℕ)). EndsSaving v (settings_load o ++ Load source ∷ Save image ∷ []) (Some image) (IsCompileAnswer source image o) c.compile_under-in-Ok.result w) (sym is)
-    (after_settings_saving v u w c.in-Some.name.now bytes.0 (numbers_of c.in-Ok.settings) (Load source ∷ Save image ∷ []) (Some image) (λ n files after. IsCompiledUnder source image n files after) c.compile_under-in-Ok.result bytes.1 bytes.2 c.compile_under-in-Ok.ensures)
+    (after_settings_saving v u w c.in-Some.name.now bytes.0 (numbers_of c.in-Ok.settings) (Load source ∷ Save image ∷ []) (Some image) (λ n known before after. IsCompiledUnder source image n known before after) c.compile_under-in-Ok.result bytes.1 bytes.2 c.compile_under-in-Ok.ensures)
 
 pub returns-in-Err : goal.returns-in-Err
 returns-in-Err g c =
     let S = g.S.Shelf in
-    let v : View = view (S.files c.args.shelf.now) (S.printed c.args.shelf.now) (S.asked c.args.shelf.now) (S.spare c.args.shelf.now) (S.faults c.args.shelf.now) (S.longs c.args.shelf.now) in
-    let w : View = view (S.files c.load_settings.new.shelf) (S.printed c.load_settings.new.shelf) (S.asked c.load_settings.new.shelf) (S.spare c.load_settings.new.shelf) (S.faults c.load_settings.new.shelf) (S.longs c.load_settings.new.shelf) in
+    let v : View = S.seen c.args.shelf.now in
+    let w : View = S.seen c.load_settings.new.shelf in
     let source : List ℕ = c.args.source.now in
     let image : List ℕ = c.args.image.now in
     let name : List ℕ = c.in-Some.name.now in
     let is : option_map (λ t. t.now) c.args.settings ≡ Some name = ap (λ s. option_map (λ t. t.now) s) c.in-Some.is in
     subst (λ (o : Option (List ℕ)). EndsSaving v (settings_load o ++ Load source ∷ Save image ∷ []) (Some image) (IsCompileAnswer source image o) c.in-Err.status w) (sym is)
     (saves_none v w (Load name ∷ []) (Load source ∷ Save image ∷ []) (Some image) (AfterLoad Settings name (λ b. AfterReadingSettings b (λ n a s t. ⊥))) (IsCompileAnswer source image (Some name)) c.in-Err.status c.in-Err.ensures.refused
-    (λ files told some status text a. record { kept = λ other. refl; answers = refused_settings name (λ files n. IsCompiledUnder source image n files files) files some status text a })
-    (λ files told after all status text a. load_first Settings name (λ b. AfterReadingSettings b (λ n. IsCompiledUnder source image n files after)) files all status text a.answers))
+    (λ known may some status text a. record { kept = λ other. refl; answers = refused_settings name (λ known n. IsCompiledUnder source image n known v.files v.files) known some status text a })
+    (λ files told after all status text a. load_first Settings name (λ b. AfterReadingSettings b (λ n. IsCompiledUnder source image n (Some files) (Some files) after)) (Some files) all status text a.answers))

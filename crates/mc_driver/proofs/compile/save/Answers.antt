@@ -1,16 +1,17 @@
 use Rattle.std.proofs.Common.{◌∙◌, ℕ, List, subst}
-use Rattle.mc_driver.specs.Outside.{View, view, Says}
+use Rattle.mc_shelf.specs.Outside.{View}
+use Rattle.mc_driver.specs.Outside.{Says}
 use Rattle.mc_driver.proofs.Saving.{said_of, saved_ends, unsaved_ends, memory_saving}
 use Rattle.mc_driver.proofs.compile.save.Goals as goal
 
 pub returns-in-Ok : goal.returns-in-Ok
 returns-in-Ok g c =
     let S = g.S.Shelf in
-    let v : View = view (S.files c.args.shelf.now) (S.printed c.args.shelf.now) (S.asked c.args.shelf.now) (S.spare c.args.shelf.now) (S.faults c.args.shelf.now) (S.longs c.args.shelf.now) in
-    let u : View = view (S.files c.save.new.self) (S.printed c.save.new.self) (S.asked c.save.new.self) (S.spare c.save.new.self) (S.faults c.save.new.self) (S.longs c.save.new.self) in
-    let w : View = view (S.files c.say.new.shelf) (S.printed c.say.new.shelf) (S.asked c.say.new.shelf) (S.spare c.say.new.shelf) (S.faults c.say.new.shelf) (S.longs c.say.new.shelf) in
+    let v : View = S.seen c.args.shelf.now in
+    let u : View = S.seen c.save.new.self in
+    let w : View = S.seen c.say.new.shelf in
     let bytes : List ℕ = c.args.bytes.now in
-    let said : Says u (said_of bytes) 0 c.say.result w = subst (λ (l : List ℕ). Says u l 0 c.say.result w) (c.as_slice.ensures.value ∙ c.saved_line.ensures) c.say.ensures.says in
+    let said : Says u (said_of bytes) 0 c.say.result w = subst (λ (l : List ℕ). Says u l 0 c.say.result w) (c.as_slice.ensures.value ∙ c.saved_line.ensures) c.say.ensures in
     saved_ends v u w c.args.name.now bytes c.say.result
     (record {
       files = c.in-Ok.ensures.ok;

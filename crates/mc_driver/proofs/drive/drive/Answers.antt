@@ -3,7 +3,8 @@ use Rattle.mc_shelf.specs.declared.shelf.PutFault.{PutFault}
 use Rattle.pdp_dev.specs.declared.entry.Entry.{Entry}
 use Rattle.pdp_machine.specs.Timed.{Timed, Advanced}
 use Rattle.pdp_machine.specs.Run.{advances}
-use Rattle.mc_driver.specs.Outside.{View, view, Streams, Breaks, lines_of}
+use Rattle.mc_shelf.specs.Outside.{View}
+use Rattle.mc_driver.specs.Outside.{Streams, Breaks, lines_of}
 use Rattle.mc_driver.proofs.Ran.{one_more_entries, one_more_machine, ran_to_stop, advances_grow}
 use Rattle.mc_driver.proofs.Streams.{streams_none, streams_then, breaks_then, breaks_before, handed_on, lines-append}
 use Rattle.mc_driver.proofs.drive.drive.Goals as goal
@@ -13,7 +14,7 @@ unfolding advances
 loop-i-init g c =
     let none : length c.args.pieces.now < 4096 = subst (λ (l : List ℕ). length l < 4096) (sym c.requires) (omega arith) in
     let S = g.S.Shelf in
-    let v : View = view (S.files c.args.shelf.now) (S.printed c.args.shelf.now) (S.asked c.args.shelf.now) (S.spare c.args.shelf.now) (S.faults c.args.shelf.now) (S.longs c.args.shelf.now) in
+    let v : View = S.seen c.args.shelf.now in
     record {
       late = omega arith;
       limit = refl;
@@ -30,8 +31,8 @@ loop-i-preserved g c =
     let before : List Entry = (advances i m).entries in
     let more : List Entry = c.as_slice.result.now in
     let S = g.S.Shelf in
-    let v : View = view (S.files c.args.shelf.now) (S.printed c.args.shelf.now) (S.asked c.args.shelf.now) (S.spare c.args.shelf.now) (S.faults c.args.shelf.now) (S.longs c.args.shelf.now) in
-    let w : View = view (S.files c.put_lines.new.shelf) (S.printed c.put_lines.new.shelf) (S.asked c.put_lines.new.shelf) (S.spare c.put_lines.new.shelf) (S.faults c.put_lines.new.shelf) (S.longs c.put_lines.new.shelf) in
+    let v : View = S.seen c.args.shelf.now in
+    let w : View = S.seen c.put_lines.new.shelf in
     let added = one_more_entries m c.loop-i.machine i before more (before ++ more) refl c.loop-i.invariant.machine (c.as_slice.ensures.value ∙ c.advance-more.ensures.entries) refl in
     let both = streams_then v _ w [] (lines_of journal before) _ (lines_of journal more) c.put_lines.new.pieces c.loop-i.invariant.streams c.in_ok-put_lines.ensures.ok in
     let here = subst (λ (l : List ℕ). Streams v [] l w c.put_lines.new.pieces) (sym (lines-append journal before more) ∙ ap (lines_of journal) added) both in
@@ -56,8 +57,8 @@ returns-in_err-put_lines-clause-refused g c =
     let before : List Entry = (advances i m).entries in
     let more : List Entry = c.as_slice.result.now in
     let S = g.S.Shelf in
-    let v : View = view (S.files c.args.shelf.now) (S.printed c.args.shelf.now) (S.asked c.args.shelf.now) (S.spare c.args.shelf.now) (S.faults c.args.shelf.now) (S.longs c.args.shelf.now) in
-    let w : View = view (S.files c.put_lines.new.shelf) (S.printed c.put_lines.new.shelf) (S.asked c.put_lines.new.shelf) (S.spare c.put_lines.new.shelf) (S.faults c.put_lines.new.shelf) (S.longs c.put_lines.new.shelf) in
+    let v : View = S.seen c.args.shelf.now in
+    let w : View = S.seen c.put_lines.new.shelf in
     let fault : PutFault = c.in_err-put_lines.field-0.0 in
     let here = breaks_then v _ w [] (lines_of journal before) _ (lines_of journal more) fault c.loop-i.invariant.streams c.in_err-put_lines.ensures.refused in
     let added = one_more_entries m c.loop-i.machine i before more (before ++ more) refl c.loop-i.invariant.machine (c.as_slice.ensures.value ∙ c.advance-more.ensures.entries) refl in
@@ -95,8 +96,8 @@ returns-in-Some-clause-ok g c =
     let before : List Entry = (advances i m).entries in
     let more : List Entry = c.as_slice.result.now in
     let S = g.S.Shelf in
-    let v : View = view (S.files c.args.shelf.now) (S.printed c.args.shelf.now) (S.asked c.args.shelf.now) (S.spare c.args.shelf.now) (S.faults c.args.shelf.now) (S.longs c.args.shelf.now) in
-    let w : View = view (S.files c.put_lines.new.shelf) (S.printed c.put_lines.new.shelf) (S.asked c.put_lines.new.shelf) (S.spare c.put_lines.new.shelf) (S.faults c.put_lines.new.shelf) (S.longs c.put_lines.new.shelf) in
+    let v : View = S.seen c.args.shelf.now in
+    let w : View = S.seen c.put_lines.new.shelf in
     let added = one_more_entries m c.loop-i.machine i before more (before ++ more) refl c.loop-i.invariant.machine (c.as_slice.ensures.value ∙ c.advance-more.ensures.entries) refl in
     let both = streams_then v _ w [] (lines_of journal before) _ (lines_of journal more) c.put_lines.new.pieces c.loop-i.invariant.streams c.in_ok-put_lines.ensures.ok in
     let here = subst (λ (l : List ℕ). Streams v [] l w c.put_lines.new.pieces) (sym (lines-append journal before more) ∙ ap (lines_of journal) added) both in

@@ -6,7 +6,8 @@ use Rattle.pdp_machine.specs.Timed.{Timed, Advanced}
 use Rattle.pdp_machine.specs.Run.{advances}
 use Rattle.mc_report.specs.declared.ending.Ending.{Ending}
 use Rattle.mc_report.specs.Report.{count_line, ending_line}
-use Rattle.mc_driver.specs.Outside.{View, view, Streams, Breaks, lines_of}
+use Rattle.mc_shelf.specs.Outside.{View}
+use Rattle.mc_driver.specs.Outside.{Streams, Breaks, lines_of}
 use Rattle.mc_driver.specs.Run.{ending_at, ending_for, trap_word}
 use Rattle.mc_driver.proofs.Streams.{streams_then, streams_print, breaks_then, breaks_before, handed_on}
 use Rattle.mc_driver.proofs.drive.print_report.Goals as goal
@@ -25,8 +26,8 @@ returns-in_err-put-clause-refused g c =
     let m : Timed = c.drive.new.machine in
     let journal : Bool = c.args.journal in
     let S = g.S.Shelf in
-    let u : View = view (S.files c.drive.new.shelf) (S.printed c.drive.new.shelf) (S.asked c.drive.new.shelf) (S.spare c.drive.new.shelf) (S.faults c.drive.new.shelf) (S.longs c.drive.new.shelf) in
-    let w : View = view (S.files c.put.new.shelf) (S.printed c.put.new.shelf) (S.asked c.put.new.shelf) (S.spare c.put.new.shelf) (S.faults c.put.new.shelf) (S.longs c.put.new.shelf) in
+    let u : View = S.seen c.drive.new.shelf in
+    let w : View = S.seen c.put.new.shelf in
     let e1 = ap (λ (s : Option Stop). ending_at c.args.origin s c.peek.result c.peek-2.result) (sym c.in_ok-stop.ensures.stop) in
     let e2 = ap (λ (x : ℕ). ending_at c.args.origin m.stop x c.peek-2.result) c.peek.ensures in
     let e3 = ap (λ (x : ℕ). ending_at c.args.origin m.stop (trap_word m) x) c.peek-2.ensures in
@@ -46,10 +47,10 @@ returns-in_err-flush-clause-refused g c =
     let m : Timed = c.drive.new.machine in
     let journal : Bool = c.args.journal in
     let S = g.S.Shelf in
-    let v : View = view (S.files c.args.shelf.now) (S.printed c.args.shelf.now) (S.asked c.args.shelf.now) (S.spare c.args.shelf.now) (S.faults c.args.shelf.now) (S.longs c.args.shelf.now) in
-    let u : View = view (S.files c.drive.new.shelf) (S.printed c.drive.new.shelf) (S.asked c.drive.new.shelf) (S.spare c.drive.new.shelf) (S.faults c.drive.new.shelf) (S.longs c.drive.new.shelf) in
-    let w : View = view (S.files c.put.new.shelf) (S.printed c.put.new.shelf) (S.asked c.put.new.shelf) (S.spare c.put.new.shelf) (S.faults c.put.new.shelf) (S.longs c.put.new.shelf) in
-    let z : View = view (S.files c.flush.new.shelf) (S.printed c.flush.new.shelf) (S.asked c.flush.new.shelf) (S.spare c.flush.new.shelf) (S.faults c.flush.new.shelf) (S.longs c.flush.new.shelf) in
+    let v : View = S.seen c.args.shelf.now in
+    let u : View = S.seen c.drive.new.shelf in
+    let w : View = S.seen c.put.new.shelf in
+    let z : View = S.seen c.flush.new.shelf in
     let e1 = ap (λ (s : Option Stop). ending_at c.args.origin s c.peek.result c.peek-2.result) (sym c.in_ok-stop.ensures.stop) in
     let e2 = ap (λ (x : ℕ). ending_at c.args.origin m.stop x c.peek-2.result) c.peek.ensures in
     let e3 = ap (λ (x : ℕ). ending_at c.args.origin m.stop (trap_word m) x) c.peek-2.ensures in
@@ -71,10 +72,10 @@ returns-clause-ok g c =
     let m : Timed = c.drive.new.machine in
     let journal : Bool = c.args.journal in
     let S = g.S.Shelf in
-    let v : View = view (S.files c.args.shelf.now) (S.printed c.args.shelf.now) (S.asked c.args.shelf.now) (S.spare c.args.shelf.now) (S.faults c.args.shelf.now) (S.longs c.args.shelf.now) in
-    let u : View = view (S.files c.drive.new.shelf) (S.printed c.drive.new.shelf) (S.asked c.drive.new.shelf) (S.spare c.drive.new.shelf) (S.faults c.drive.new.shelf) (S.longs c.drive.new.shelf) in
-    let w : View = view (S.files c.put.new.shelf) (S.printed c.put.new.shelf) (S.asked c.put.new.shelf) (S.spare c.put.new.shelf) (S.faults c.put.new.shelf) (S.longs c.put.new.shelf) in
-    let z : View = view (S.files c.flush.new.shelf) (S.printed c.flush.new.shelf) (S.asked c.flush.new.shelf) (S.spare c.flush.new.shelf) (S.faults c.flush.new.shelf) (S.longs c.flush.new.shelf) in
+    let v : View = S.seen c.args.shelf.now in
+    let u : View = S.seen c.drive.new.shelf in
+    let w : View = S.seen c.put.new.shelf in
+    let z : View = S.seen c.flush.new.shelf in
     let e1 = ap (λ (s : Option Stop). ending_at c.args.origin s c.peek.result c.peek-2.result) (sym c.in_ok-stop.ensures.stop) in
     let e2 = ap (λ (x : ℕ). ending_at c.args.origin m.stop x c.peek-2.result) c.peek.ensures in
     let e3 = ap (λ (x : ℕ). ending_at c.args.origin m.stop (trap_word m) x) c.peek-2.ensures in

@@ -3,7 +3,8 @@ use Rattle.mc_shelf.specs.declared.shelf.PutFault.{PutFault}
 use Rattle.pdp_dev.specs.declared.entry.Entry.{Entry}
 use Rattle.pdp_dev.specs.declared.entry.Entry.TheVariants.{Event}
 use Rattle.pdp_dev.specs.declared.entry.Event.TheVariants.{Key}
-use Rattle.mc_driver.specs.Outside.{View, view, Streams, Breaks, lines_of}
+use Rattle.mc_shelf.specs.Outside.{View}
+use Rattle.mc_driver.specs.Outside.{Streams, Breaks, lines_of}
 use Rattle.mc_driver.proofs.Streams.{streams_none, streams_then, breaks_then, breaks_before, handed_on, lines_more, lines_whole}
 use Rattle.mc_driver.proofs.drive.put_lines.Goals as goal
 
@@ -15,8 +16,8 @@ loop-entry-preserved g c =
     let i : ℕ = c.loop-entry.entry-index in
     let entries : List Entry = c.args.entries.now in
     let S = g.S.Shelf in
-    let v : View = view (S.files c.args.shelf.now) (S.printed c.args.shelf.now) (S.asked c.args.shelf.now) (S.spare c.args.shelf.now) (S.faults c.args.shelf.now) (S.longs c.args.shelf.now) in
-    let w : View = view (S.files c.put.new.shelf) (S.printed c.put.new.shelf) (S.asked c.put.new.shelf) (S.spare c.put.new.shelf) (S.faults c.put.new.shelf) (S.longs c.put.new.shelf) in
+    let v : View = S.seen c.args.shelf.now in
+    let w : View = S.seen c.put.new.shelf in
     let is = c.as_slice.ensures.value ∙ c.line_of.ensures in
     let more = lines_more c.args.journal entries i (Event (Key 0)) c.loop-entry-test.true in
     let both = streams_then v _ w c.args.pieces.now (lines_of c.args.journal (take i entries)) _ c.as_slice.result.now c.put.new.pieces c.loop-entry.invariant.streams c.in_ok-put.ensures.ok in
@@ -31,8 +32,8 @@ returns-in_err-put-clause-refused g c =
     let i : ℕ = c.loop-entry.entry-index in
     let entries : List Entry = c.args.entries.now in
     let S = g.S.Shelf in
-    let v : View = view (S.files c.args.shelf.now) (S.printed c.args.shelf.now) (S.asked c.args.shelf.now) (S.spare c.args.shelf.now) (S.faults c.args.shelf.now) (S.longs c.args.shelf.now) in
-    let w : View = view (S.files c.put.new.shelf) (S.printed c.put.new.shelf) (S.asked c.put.new.shelf) (S.spare c.put.new.shelf) (S.faults c.put.new.shelf) (S.longs c.put.new.shelf) in
+    let v : View = S.seen c.args.shelf.now in
+    let w : View = S.seen c.put.new.shelf in
     let fault : PutFault = c.in_err-put.field-0.0 in
     let is = c.as_slice.ensures.value ∙ c.line_of.ensures in
     let here = breaks_then v _ w c.args.pieces.now (lines_of c.args.journal (take i entries)) _ c.as_slice.result.now fault c.loop-entry.invariant.streams c.in_err-put.ensures.refused in

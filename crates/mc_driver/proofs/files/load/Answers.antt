@@ -1,14 +1,14 @@
 use Rattle.std.proofs.Common.{◌<◌, ℕ, List, length, subst}
-use Rattle.mc_shelf.specs.Outside.{content}
-use Rattle.mc_driver.specs.Outside.{View, view, Says, is_long}
+use Rattle.mc_shelf.specs.Outside.{content, View}
+use Rattle.mc_driver.specs.Outside.{Says, is_long}
 use Rattle.mc_driver.proofs.files.load.Goals as goal
 
 pub returns-in-Err-TooLong-clause-refused : goal.returns-in-Err-TooLong-clause-refused
 returns-in-Err-TooLong-clause-refused g c =
     let S = g.S.Shelf in
     let name : List ℕ = c.args.name.now in
-    let u : View = view (S.files c.load.new.self) (S.printed c.load.new.self) (S.asked c.load.new.self) (S.spare c.load.new.self) (S.faults c.load.new.self) (S.longs c.load.new.self) in
-    let w : View = view (S.files c.say.new.shelf) (S.printed c.say.new.shelf) (S.asked c.say.new.shelf) (S.spare c.say.new.shelf) (S.faults c.say.new.shelf) (S.longs c.say.new.shelf) in
+    let u : View = S.seen c.load.new.self in
+    let w : View = S.seen c.say.new.shelf in
     let is = c.in-Err-TooLong.field-0-is in
     is_long u
     (record {
@@ -19,4 +19,4 @@ returns-in-Err-TooLong-clause-refused g c =
       asked = c.in-Err-TooLong.ensures.asked (λ e. cc (e, is));
       faults = c.in-Err-TooLong.ensures.faults_same (λ e. cc (e, is));
     })
-    (subst (λ (l : List ℕ). Says u l 14 c.say.result w) c.too_long.ensures c.say.ensures.says)
+    (subst (λ (l : List ℕ). Says u l 14 c.say.result w) c.too_long.ensures c.say.ensures)

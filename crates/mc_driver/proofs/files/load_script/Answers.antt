@@ -2,9 +2,10 @@ use Rattle.std.proofs.Common.{ℕ, List, [], refl, ◌∙◌, subst, inl, inr, a
 use Rattle.mc_script.specs.Texts.{HasFirstFault}
 use Rattle.mc_script.specs.declared.fault.ScriptFault.{ScriptFault}
 use Rattle.mc_driver.specs.declared.files.FileKind.TheVariants.{Script}
-use Rattle.mc_driver.specs.Outside.{View, view, Says}
+use Rattle.mc_shelf.specs.Outside.{View}
+use Rattle.mc_driver.specs.Outside.{Says}
 use Rattle.mc_driver.specs.Refusal.{script_line}
-use Rattle.mc_driver.specs.Answer.{AfterScript, no_script}
+use Rattle.mc_driver.specs.Stages.{AfterScript, no_script}
 use Rattle.mc_driver.proofs.Endings.{says_ends, not_loaded, after_load, no_memory_behind}
 use Rattle.mc_driver.proofs.files.load_script.Goals as goal
 
@@ -15,11 +16,11 @@ pub returns-in-Some-clause-refused : goal.returns-in-Some-clause-refused
 returns-in-Some-clause-refused g c =
     let S = g.S.Shelf in
     let bytes : List ℕ = c.in-Ok.text.items in
-    let u : View = view (S.files c.load.new.shelf) (S.printed c.load.new.shelf) (S.asked c.load.new.shelf) (S.spare c.load.new.shelf) (S.faults c.load.new.shelf) (S.longs c.load.new.shelf) in
-    let w : View = view (S.files c.say.new.shelf) (S.printed c.say.new.shelf) (S.asked c.say.new.shelf) (S.spare c.say.new.shelf) (S.faults c.say.new.shelf) (S.longs c.say.new.shelf) in
+    let u : View = S.seen c.load.new.shelf in
+    let w : View = S.seen c.say.new.shelf in
     let fault : ScriptFault = c.in-Err-read_script.fault in
     let has : HasFirstFault bytes fault = subst (λ (b : List ℕ). HasFirstFault b fault) c.as_slice.ensures.value (elim c.in-Err-read_script.ensures.refused [ inl e ↦ absurd (c.in-Some.ensures.0 e) | inr h ↦ h ]) in
-    let said : Says u (script_line fault) 3 c.say.result w = subst (λ (l : List ℕ). Says u l 3 c.say.result w) (c.as_slice-in-Some.ensures.value ∙ c.in-Some.ensures.1) c.say.ensures.says in
+    let said : Says u (script_line fault) 3 c.say.result w = subst (λ (l : List ℕ). Says u l 3 c.say.result w) (c.as_slice-in-Some.ensures.value ∙ c.in-Some.ensures.1) c.say.ensures in
     after_load _ u w Script c.args.name.now bytes [] (λ files b. AfterScript b (λ i a s t. ⊥)) c.say.result c.in-Ok.ensures.ok
     (says_ends u w [] (λ files. AfterScript bytes (λ i a s t. ⊥)) (script_line fault) 3 c.say.result (λ e. omega arith) said (λ files told. no_script fault has refl (refl, refl)))
 

@@ -1,6 +1,7 @@
 use Rattle.std.proofs.Common.{length, map}
 use Rattle.mc_script.specs.Lines.{fields}
-use Rattle.mc_script.specs.Forms.{value, AreBytes}
+use Rattle.mc_script.specs.Forms.{value}
+use Rattle.mc_script.specs.Script.{AreBytes}
 use Rattle.mc_script.proofs.read.are_bytes.Given as goal
 
 abbrev pub invariant-loop-field : goal.invariant-loop-field

@@ -1,4 +1,5 @@
 use Rattle.std.proofs.Common.{ap, ℕ, ◌∙◌}
+use Rattle.mc_prog.specs.Values.{truth}
 use Rattle.mc_meaning.specs.Access.{after_reading, after_writing, with_bit}
 use Rattle.mc_meaning.specs.Configuration.{Configuration}
 use Rattle.mc_meaning.specs.Kept.{configuration_of}
@@ -16,5 +17,5 @@ returns-then-is_err-clause-err c =
 pub returns-else-is_err-clause-ok : goal.returns-else-is_err-clause-ok
 returns-else-is_err-clause-ok c =
     ok-then c.writes-written.result _ _
-    (λ e. e ∙ ap (λ (d : Configuration). after_writing d c.args.there c.in_ok-whole.whole) c.reads.ensures
-    ∙ ap (λ (w : ℕ). after_writing (after_reading (configuration_of c.args.self.now) c.args.there) c.args.there w) (c.in_ok-whole.ensures ∙ ap (λ (w : ℕ). with_bit w c.args.i c.args.bit) c.word_at.ensures)) c.writes-written.ensures.ok
+    (λ e. e ∙ ap (λ (d : Configuration). after_writing d c.args.there c.with_bit-whole.result) c.reads.ensures
+    ∙ ap (λ (w : ℕ). after_writing (after_reading (configuration_of c.args.self.now) c.args.there) c.args.there w) (c.with_bit-whole.ensures ∙ ap (λ (w : ℕ). with_bit w c.args.i (truth c.args.is_set)) c.word_at.ensures)) c.writes-written.ensures.ok

@@ -1,5 +1,6 @@
 use Rattle.std.proofs.Common.{◌≡◌, List, subst, sym, ◌∙◌, arith}
 use Rattle.mc_script.specs.declared.script.Key.{Key}
+use Rattle.pdp_machine.specs.Made.{run_made}
 use Rattle.pdp_machine.specs.Timed.{AreAhead}
 use Rattle.pdp_machine.specs.Times.{AreAhead-after, AreAhead-weaker}
 use Rattle.pdp_machine.proofs.machine.Machine.open.Goals as goal
@@ -25,3 +26,6 @@ invariant_of-result c =
 
 pub returns-clause-timed : goal.returns-clause-timed
 returns-clause-timed c = invariant_of-result c
+
+pub returns-clause-made : goal.returns-clause-made
+returns-clause-made c = run_made c.args.image.now c.args.script.now c.keys.ensures.script
