@@ -1,5 +1,5 @@
 -- What calls, starts, waits, sends and ends make of a configuration, from the equations of their parts.
-use Rattle.std.specs.Prelude.{◌≡◌, ◌<◌, ◌≤◌, ℕ, List, [], ◌∷◌, ◌++◌, Option, Some, None, Result, Ok, Err, OnErr, Bool, true, false, ◌&&◌, is_some, drop, slice_get, if◌then◌else◌}
+use Rattle.std.specs.Prelude.{◌≡◌, ◌≢◌, ◌<◌, ◌≤◌, ℕ, List, [], ◌∷◌, ◌++◌, Option, Some, None, Result, Ok, Err, OnErr, Bool, true, false, ◌&&◌, is_some, drop, length, refl, slice_get, if◌then◌else◌}
 use Rattle.std.proofs.Common.{ap, ◌∙◌, sym}
 use Rattle.std.proofs.lemmas.Bool.{le-ltb, lt-ltb}
 use Rattle.pdp_dev.specs.declared.devices.Devices.{Devices}
@@ -17,7 +17,6 @@ use Rattle.mc_meaning.specs.declared.config.Waiter.{Waiter}
 use Rattle.mc_meaning.specs.declared.process.Activation.{Activation}
 use Rattle.mc_meaning.specs.declared.process.Item.{Item}
 use Rattle.mc_meaning.specs.declared.process.Item.TheVariants.{Returns, Runs}
-use Rattle.mc_meaning.specs.declared.process.ProcessKind.{ProcessKind}
 use Rattle.mc_meaning.specs.declared.process.Reference.{Reference}
 use Rattle.mc_meaning.specs.declared.process.Running.TheVariants as running
 use Rattle.mc_meaning.specs.declared.process.State.{State}
@@ -27,9 +26,9 @@ use Rattle.mc_meaning.specs.declared.store.Found.TheVariants as found
 use Rattle.mc_meaning.specs.declared.store.Name.{Name}
 use Rattle.mc_meaning.specs.declared.store.Name.TheVariants.{Private}
 use Rattle.mc_meaning.specs.declared.store.Target.TheVariants as target
-use Rattle.mc_meaning.specs.Actions.{chosen, delayed, kind_at, is_driver, released, send, send_to, set_state, start, started, trapped, vacated, wait, wakes, was_started}
-use Rattle.mc_meaning.specs.Calling.{arguments_of, bound, called, called_items, enter_body, entered, leave, priority_in, priority_inside, references_for, with_process}
-use Rattle.mc_meaning.specs.Configuration.{Configuration, ProcessState}
+use Rattle.mc_meaning.specs.Actions.{chosen, delayed, in_state, kind_at, is_driver, released, send, send_to, set_state, start, started, trapped, vacated, wait, wakes, was_started}
+use Rattle.mc_meaning.specs.Calling.{arguments_of, called, called_items, enter_body, entered, first_words, leave, priority_in, priority_inside, references_for, returned, with_process}
+use Rattle.mc_meaning.specs.Configuration.{Configuration, ProcessState, all_stored}
 use Rattle.mc_meaning.specs.ProgramRuns.{granted_to, joins, nest_above, standing_at}
 use Rattle.mc_meaning.specs.Steps.{goes_on, next, next_of}
 use Rattle.mc_meaning.proofs.EvaluationLaws.{twice}
@@ -40,19 +39,19 @@ on-err (Err e) P h = h
 
 -- Ends and waits
 
-pub left-in : (c g new : Configuration) (n : ℕ) (s : State) (q r : ProcessState) (kind : ProcessKind) (rest : List Item)
-    → r ≡ record q { state = s } → kind ≡ q.kind → g ≡ goes_on c n r r.found rest → new ≡ vacated g n kind
-    → new ≡ vacated (with_process c n (record q { state = s; rest = rest })) n q.kind
-left-in c g new n s q r kind rest state is goes leaves =
-    leaves ∙ ap (λ (k : ProcessKind). vacated g n k) is ∙ ap (λ (d : Configuration). vacated d n q.kind) (goes ∙ ap (λ (p : ProcessState). goes_on c n p p.found rest) state)
+pub left-in : (c g new : Configuration) (n : ℕ) (s : State) (q r : ProcessState) (rest : List Item)
+    → r ≡ in_state s q → g ≡ goes_on c n r r.found rest → new ≡ vacated g
+    → new ≡ vacated (with_process c n (record (in_state s q) { rest = rest }))
+left-in c g new n s q r rest state goes leaves =
+    leaves ∙ ap (λ (d : Configuration). vacated d) (goes ∙ ap (λ (p : ProcessState). goes_on c n p p.found rest) state)
 
-pub delayed-by : (c w g new : Configuration) (n : ℕ) (q r : ProcessState) (kind : ProcessKind) (signal : Name) (rank : ℕ) (rest : List Item)
+pub delayed-by : (c w g new : Configuration) (n : ℕ) (q r : ProcessState) (signal : Name) (rank : ℕ) (rest : List Item)
     → w ≡ record c { waiters = c.waiters ++ (record { signal = signal; rank = rank; process = n } ∷ []) }
-    → r ≡ record q { state = Delayed } → kind ≡ q.kind → g ≡ goes_on w n r r.found rest → new ≡ vacated g n kind
+    → r ≡ in_state Delayed q → g ≡ goes_on w n r r.found rest → new ≡ vacated g
     → new ≡ delayed c n q signal rank q.found rest
-delayed-by c w g new n q r kind signal rank rest waits state is goes leaves =
-    leaves ∙ ap (λ (k : ProcessKind). vacated g n k) is
-    ∙ ap (λ (d : Configuration). vacated d n q.kind) (goes ∙ ap (λ (d : Configuration). goes_on d n r r.found rest) waits ∙ ap (λ (p : ProcessState). goes_on (record c { waiters = c.waiters ++ (record { signal = signal; rank = rank; process = n } ∷ []) }) n p p.found rest) state)
+delayed-by c w g new n q r signal rank rest waits state goes leaves =
+    leaves
+    ∙ ap (λ (d : Configuration). vacated d) (goes ∙ ap (λ (d : Configuration). goes_on d n r r.found rest) waits ∙ ap (λ (p : ProcessState). goes_on (record c { waiters = c.waiters ++ (record { signal = signal; rank = rank; process = n } ∷ []) }) n p p.found rest) state)
 
 pub waits-first : (c new : Configuration) (n : ℕ) (q r : ProcessState) (signal : Name) (rest : List Item)
     → q ≡ record r { found = found.Named (target.Stored signal) ∷ r.found } → new ≡ delayed c n r signal 1 r.found rest → new ≡ wait c n q false rest q.found
@@ -79,62 +78,67 @@ waits-negative c new n q one two signal rank rest large first second step =
 
 pub sent-to : (c new : Configuration) (n : ℕ) (q r : ProcessState) (signal : Name) (waiters : List Waiter) (to : Option Waiter) (w : Waiter) (rest : List Item)
     → q ≡ record r { found = found.Named (target.Stored signal) ∷ r.found } → waiters ≡ c.waiters → to ≡ chosen waiters signal → to ≡ Some w
-    → new ≡ wakes (released (goes_on c n r r.found rest) w.process) n w.process (is_driver r.kind) (is_driver (kind_at (slice_get c.processes w.process)))
+    → new ≡ wakes (released (goes_on c n r r.found rest) w.process) n w.process (is_driver r.standing.kind) (is_driver (kind_at (slice_get c.processes w.process)))
     → new ≡ send c n q rest q.found
 sent-to c new n q r signal waiters to w rest pop are is some step =
-    step ∙ sym (ap (λ (o : Option Waiter). send_to c (goes_on c n r r.found rest) n r.kind o) (sym (is ∙ ap (λ (ws : List Waiter). chosen ws signal) are) ∙ some))
+    step ∙ sym (ap (λ (o : Option Waiter). send_to c (goes_on c n r r.found rest) n r.standing.kind o) (sym (is ∙ ap (λ (ws : List Waiter). chosen ws signal) are) ∙ some))
     ∙ sym (ap (λ (s : ProcessState). send c n s rest s.found) pop)
 
 pub sent-to-none : (c new : Configuration) (n : ℕ) (q r : ProcessState) (signal : Name) (waiters : List Waiter) (to : Option Waiter) (rest : List Item)
     → q ≡ record r { found = found.Named (target.Stored signal) ∷ r.found } → waiters ≡ c.waiters → to ≡ chosen waiters signal → to ≡ None
     → new ≡ goes_on c n r r.found rest → new ≡ send c n q rest q.found
 sent-to-none c new n q r signal waiters to rest pop are is none step =
-    step ∙ sym (ap (λ (o : Option Waiter). send_to c (goes_on c n r r.found rest) n r.kind o) (sym (is ∙ ap (λ (ws : List Waiter). chosen ws signal) are) ∙ none))
+    step ∙ sym (ap (λ (o : Option Waiter). send_to c (goes_on c n r r.found rest) n r.standing.kind o) (sym (is ∙ ap (λ (ws : List Waiter). chosen ws signal) are) ∙ none))
     ∙ sym (ap (λ (s : ProcessState). send c n s rest s.found) pop)
 
 -- Calls
 
-pub called-by : (p : Resolved) (c mid new : Configuration) (n k : ℕ) (q r : ProcessState) (code : CodeInfo) (arguments : List Found) (rest more : List Item) (references : List Reference) (before priority made of_module in_module frame : ℕ) (slots : List Slot)
-    → slots ≡ code.slots → of_module ≡ code.«module» → in_module ≡ of_module → frame ≡ code.frame → made ≡ q.made → more ≡ called_items p n made code arguments rest → references ≡ references_for 0 slots arguments
-    → before ≡ q.priority → priority ≡ priority_in (slice_get p.modules of_module) before → r ≡ entered q (running.Procedure k) in_module frame references priority
-    → mid ≡ record c { store = bound c.store n made 0 slots arguments } → new ≡ goes_on mid n r r.found more
+pub called-by : (p : Resolved) (c mid new : Configuration) (n k : ℕ) (q r : ProcessState) (code : CodeInfo) (arguments : List Found) (rest items : List Item) (references : List Reference) (before priority depth of_module in_module frame : ℕ) (slots : List Slot)
+    → slots ≡ code.slots → of_module ≡ code.«module» → in_module ≡ of_module → frame ≡ code.frame → depth ≡ length q.activations → items ≡ called_items p n depth code arguments → references ≡ references_for 0 slots arguments
+    → before ≡ q.standing.priority → priority ≡ priority_in (slice_get p.modules of_module) before → r ≡ entered q rest (running.Procedure k) in_module frame references priority
+    → mid ≡ record c { store = all_stored c.store (first_words n depth slots arguments) } → new ≡ goes_on mid n r r.found items
     → new ≡ called p c n q k code arguments rest
-called-by p c mid new n k q r code arguments rest more references before priority made of_module in_module frame slots es eo ei ef em items refers eb ep enters binds step =
+called-by p c mid new n k q r code arguments rest items references before priority depth of_module in_module frame slots es eo ei ef ed has refers eb ep enters binds step =
     let er : references ≡ references_for 0 code.slots arguments = refers ∙ ap (λ (s : List Slot). references_for 0 s arguments) es in
-    let pr : priority ≡ priority_in (slice_get p.modules code.«module») q.priority = ep ∙ (λ i. priority_in (slice_get p.modules (eo i)) (eb i)) in
-    let all : more ≡ called_items p n q.made code arguments rest = items ∙ ap (λ (m : ℕ). called_items p n m code arguments rest) em in
+    let pr : priority ≡ priority_in (slice_get p.modules code.«module») q.standing.priority = ep ∙ (λ i. priority_in (slice_get p.modules (eo i)) (eb i)) in
+    let all : items ≡ called_items p n (length q.activations) code arguments = has ∙ ap (λ (m : ℕ). called_items p n m code arguments) ed in
     let inside : in_module ≡ code.«module» = ei ∙ eo in
-    step ∙ ap (λ (m : Configuration). goes_on m n r r.found more) binds
-    ∙ ap (λ (s : ProcessState). goes_on (record c { store = bound c.store n made 0 slots arguments }) n s s.found more) enters
-    ∙ (λ i. goes_on (record c { store = bound c.store n (em i) 0 (es i) arguments }) n (entered q (running.Procedure k) (inside i) (ef i) (er i) (pr i)) q.found (all i))
+    step ∙ ap (λ (m : Configuration). goes_on m n r r.found items) binds
+    ∙ ap (λ (s : ProcessState). goes_on (record c { store = all_stored c.store (first_words n depth slots arguments) }) n s s.found items) enters
+    ∙ (λ i. goes_on (record c { store = all_stored c.store (first_words n (ed i) (es i) arguments) }) n (entered q rest (running.Procedure k) (inside i) (ef i) (er i) (pr i)) [] (all i))
 
-pub entered-body : (p : Resolved) (c new : Configuration) (n m : ℕ) (q r : ProcessState) (info : ModuleInfo) (rest one two : List Item) (references : List Reference) (before priority : ℕ)
-    → slice_get p.modules m ≡ Some info → one ≡ Returns None ∷ rest → two ≡ Runs info.body.body ∷ one → references ≡ []
-    → before ≡ q.priority → priority ≡ priority_inside info.kind info.priority before → r ≡ entered q (running.Body m) m info.body.frame references priority
-    → new ≡ goes_on c n r r.found two → new ≡ enter_body p c n q m rest (slice_get p.modules m)
-entered-body p c new n m q r info rest one two references before priority is e1 e2 er eb ep enters step =
-    let pr : priority ≡ priority_inside info.kind info.priority q.priority = ep ∙ ap (λ (b : ℕ). priority_inside info.kind info.priority b) eb in
-    let all : two ≡ Runs info.body.body ∷ (Returns None ∷ rest) = e2 ∙ ap (λ (items : List Item). Runs info.body.body ∷ items) e1 in
-    step ∙ ap (λ (s : ProcessState). goes_on c n s s.found two) enters
-    ∙ (λ i. goes_on c n (entered q (running.Body m) m info.body.frame (er i) (pr i)) q.found (all i))
+pub entered-body : (p : Resolved) (c new : Configuration) (n m : ℕ) (q r : ProcessState) (info : ModuleInfo) (rest items : List Item) (references : List Reference) (before priority : ℕ)
+    → slice_get p.modules m ≡ Some info → references ≡ []
+    → before ≡ q.standing.priority → priority ≡ priority_inside info.kind info.priority before → r ≡ entered q rest (running.Body m) m info.body.frame references priority
+    → items ≡ Runs info.body.body ∷ (Returns None ∷ []) → new ≡ goes_on c n r r.found items → new ≡ enter_body p c n q m rest (slice_get p.modules m)
+entered-body p c new n m q r info rest items references before priority is er eb ep enters has step =
+    let pr : priority ≡ priority_inside info.kind info.priority q.standing.priority = ep ∙ ap (λ (b : ℕ). priority_inside info.kind info.priority b) eb in
+    step ∙ ap (λ (s : ProcessState). goes_on c n s s.found items) enters
+    ∙ (λ i. goes_on c n (entered q rest (running.Body m) m info.body.frame (er i) (pr i)) [] (has i))
     ∙ sym (ap (λ (o : Option ModuleInfo). enter_body p c n q m rest o) is)
 
-pub left : (c new : Configuration) (n : ℕ) (q r : ProcessState) (a : Activation) (slot : Option ℕ) (rest : List Item)
-    → q.activations ≡ a ∷ r.activations → r ≡ record q { priority = a.before; activations = r.activations } → slot ≡ None
-    → new ≡ goes_on c n r r.found rest → new ≡ leave c n q slot rest q.activations
-left c new n q r a slot rest front leaves none step =
-    step ∙ ap (λ (s : ProcessState). goes_on c n s s.found rest) leaves
-    ∙ sym (ap (λ (s : Option ℕ). leave c n q s rest (a ∷ r.activations)) none) ∙ sym (ap (λ (all : List Activation). leave c n q slot rest all) front)
+pub returned-front : (q r : ProcessState) (a : Activation) (activations : List Activation) → q.activations ≡ a ∷ activations → r ≡ returned q (a ∷ activations) → r ≡ returned q q.activations
+returned-front q r a activations front step = step ∙ sym (ap (returned q) front)
 
-pub left-with : (c new : Configuration) (n : ℕ) (q r s : ProcessState) (a : Activation) (slot : Option ℕ) (k w : ℕ) (rest : List Item)
-    → q.activations ≡ a ∷ r.activations → r ≡ record q { priority = a.before; activations = r.activations } → slot ≡ Some k
-    → w ≡ c.store (Private n a.number k 0) → s ≡ record r { found = found.Value w ∷ r.found } → new ≡ goes_on c n s s.found rest
-    → new ≡ leave c n q slot rest q.activations
-left-with c new n q r s a slot k w rest front leaves some word puts step =
-    step ∙ ap (λ (t : ProcessState). goes_on c n t t.found rest) puts
-    ∙ ap (λ (t : ProcessState). goes_on c n (record t { found = found.Value w ∷ t.found }) (found.Value w ∷ t.found) rest) leaves
-    ∙ ap (λ (x : ℕ). goes_on c n (record q { priority = a.before; activations = r.activations }) (found.Value x ∷ q.found) rest) word
-    ∙ sym (ap (λ (o : Option ℕ). leave c n q o rest (a ∷ r.activations)) some) ∙ sym (ap (λ (all : List Activation). leave c n q slot rest all) front)
+pub left-none : (c : Configuration) (n : ℕ) (q : ProcessState) (slot : Option ℕ) → q.activations ≡ [] → c ≡ leave c n q slot q.activations
+left-none c n q slot none = sym (ap (λ (all : List Activation). leave c n q slot all) none)
+
+pub left : (c new : Configuration) (n : ℕ) (q r : ProcessState) (slot : Option ℕ) (all : List Activation)
+    → all ≢ [] → r ≡ returned q all → slot ≡ None → new ≡ with_process c n r → new ≡ leave c n q slot all
+left c new n q r slot [] some back none step = absurd (some refl)
+left c new n q r slot (a ∷ all) some back none step = step ∙ ap (with_process c n) back ∙ sym (ap (λ (s : Option ℕ). leave c n q s (a ∷ all)) none)
+
+pub left-with : (c new : Configuration) (n : ℕ) (q r s : ProcessState) (slot : Option ℕ) (k w depth : ℕ) (all : List Activation)
+    → all ≢ [] → r ≡ returned q all → slot ≡ Some k → depth ≡ length r.activations
+    → w ≡ c.store (Private n depth k 0) → s ≡ record r { found = found.Value w ∷ r.found } → new ≡ with_process c n s
+    → new ≡ leave c n q slot all
+left-with c new n q r s slot k w depth [] more back some deep word puts step = absurd (more refl)
+left-with c new n q r s slot k w depth (a ∷ all) more back some deep word puts step =
+    let there : w ≡ c.store (Private n (length all) k 0) = word ∙ ap (λ (d : ℕ). c.store (Private n d k 0)) (deep ∙ ap (λ (t : ProcessState). length t.activations) back) in
+    step ∙ ap (with_process c n) puts
+    ∙ ap (λ (t : ProcessState). with_process c n (record t { found = found.Value w ∷ t.found })) back
+    ∙ ap (λ (x : ℕ). with_process c n (record (returned q (a ∷ all)) { found = found.Value x ∷ a.found })) there
+    ∙ sym (ap (λ (o : Option ℕ). leave c n q o (a ∷ all)) some)
 
 -- Grants
 

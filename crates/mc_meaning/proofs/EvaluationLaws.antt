@@ -24,6 +24,10 @@ pub err-then : {A E : Type 0} (r : Result A E) (P Q : Type 0) → (P → Q) → 
 err-then (Ok x) P Q f h = h
 err-then (Err e) P Q f h = f h
 
+pub either-way : {A E : Type 0} (r : Result A E) (P Q : Type 0) → (P → Q) → OnOk r P → OnErr r Q → Q
+either-way (Ok x) P Q f h k = f h
+either-way (Err e) P Q f h k = k
+
 pub found-more : (c new : Configuration) (n : ℕ) (q r : ProcessState) (f : Found) (rest : List Item)
     → r ≡ record q { found = f ∷ q.found } → new ≡ goes_on c n r r.found rest → new ≡ finds c n q f rest
 found-more c new n q r f rest e step = step ∙ ap (λ (s : ProcessState). goes_on c n s s.found rest) e

@@ -14,8 +14,7 @@ use Rattle.mc_meaning.specs.declared.store.Name.{Name}
 use Rattle.mc_meaning.specs.declared.store.Name.TheVariants.{Private}
 use Rattle.mc_meaning.specs.declared.store.Source.TheVariants as source
 use Rattle.mc_meaning.specs.Access.{moved_name}
-use Rattle.mc_meaning.specs.Calling.{bound, bound_value, clears, copies, references_for, word_moves}
-use Rattle.mc_meaning.specs.Configuration.{Store}
+use Rattle.mc_meaning.specs.Calling.{clears, copies, references_for, scalars_for, word_moves}
 use Rattle.mc_meaning.specs.Parts.{argument_items}
 
 nothing-behind : {A : Type 0} (xs : List A) → xs ≡ xs ++ []
@@ -75,13 +74,13 @@ no-reference-arguments : (k : ℕ) (slots : List Slot) → references_for k slot
 no-reference-arguments k [] = refl
 no-reference-arguments k (s ∷ slots) = refl
 
-no-bound-slots : (store : Store) (n activation k : ℕ) (arguments : List Found) → bound store n activation k [] arguments ≡ store
-no-bound-slots store n activation k [] = refl
-no-bound-slots store n activation k (f ∷ arguments) = refl
+no-scalar-slots : (n activation k : ℕ) (arguments : List Found) → scalars_for n activation k [] arguments ≡ []
+no-scalar-slots n activation k [] = refl
+no-scalar-slots n activation k (f ∷ arguments) = refl
 
-no-bound-arguments : (store : Store) (n activation k : ℕ) (slots : List Slot) → bound store n activation k slots [] ≡ store
-no-bound-arguments store n activation k [] = refl
-no-bound-arguments store n activation k (s ∷ slots) = refl
+no-scalar-arguments : (n activation k : ℕ) (slots : List Slot) → scalars_for n activation k slots [] ≡ []
+no-scalar-arguments n activation k [] = refl
+no-scalar-arguments n activation k (s ∷ slots) = refl
 
 pub copy-slots-end : (p : Resolved) (n activation k : ℕ) (slots : List Slot) (arguments : List Found) (done all : List Item) → length slots ≤ k
     → done ++ copies p n activation k (drop k slots) arguments ≡ all → done ≡ all
@@ -103,24 +102,16 @@ pub reference-arguments-end : (k : ℕ) (slots : List Slot) (arguments : List Fo
 reference-arguments-end k slots arguments done all past e =
     nothing-behind done ∙ ap (λ (rest : List Reference). done ++ rest) (sym (no-reference-arguments k slots)) ∙ ap (λ (left : List Found). done ++ references_for k slots left) (sym (drop_all k arguments past)) ∙ e
 
-pub bound-slots-end : (store all : Store) (n activation k : ℕ) (slots : List Slot) (arguments : List Found) → length slots ≤ k
-    → bound store n activation k (drop k slots) arguments ≡ all → store ≡ all
-bound-slots-end store all n activation k slots arguments past e =
-    sym (no-bound-slots store n activation k arguments) ∙ ap (λ (left : List Slot). bound store n activation k left arguments) (sym (drop_all k slots past)) ∙ e
+pub scalar-slots-end : (n activation k : ℕ) (slots : List Slot) (arguments : List Found) (done all : List (Name × ℕ)) → length slots ≤ k
+    → done ++ scalars_for n activation k (drop k slots) arguments ≡ all → done ≡ all
+scalar-slots-end n activation k slots arguments done all past e =
+    nothing-behind done ∙ ap (λ (rest : List (Name × ℕ)). done ++ rest) (sym (no-scalar-slots n activation k arguments)) ∙ ap (λ (left : List Slot). done ++ scalars_for n activation k left arguments) (sym (drop_all k slots past)) ∙ e
 
-pub bound-arguments-end : (store all : Store) (n activation k : ℕ) (slots : List Slot) (arguments : List Found) → length arguments ≤ k
-    → bound store n activation k slots (drop k arguments) ≡ all → store ≡ all
-bound-arguments-end store all n activation k slots arguments past e =
-    sym (no-bound-arguments store n activation k slots) ∙ ap (λ (left : List Found). bound store n activation k slots left) (sym (drop_all k arguments past)) ∙ e
+pub scalar-arguments-end : (n activation k : ℕ) (slots : List Slot) (arguments : List Found) (done all : List (Name × ℕ)) → length arguments ≤ k
+    → done ++ scalars_for n activation k slots (drop k arguments) ≡ all → done ≡ all
+scalar-arguments-end n activation k slots arguments done all past e =
+    nothing-behind done ∙ ap (λ (rest : List (Name × ℕ)). done ++ rest) (sym (no-scalar-arguments n activation k slots)) ∙ ap (λ (left : List Found). done ++ scalars_for n activation k slots left) (sym (drop_all k arguments past)) ∙ e
 
 -- the next one of a list
 pub next-of : {A : Type 0} (xs : List A) (i : ℕ) (d : A) → i < length xs → drop i xs ≡ get_or xs i d ∷ drop (i + 1) xs
 next-of xs i d less = drop-cons xs i d less ∙ ap (λ j. get_or xs i d ∷ drop j xs) (sym (add-one i))
-
--- one parameter more
-pub bound-more : (store next all : Store) (n activation k number : ℕ) (slots more-slots : List Slot) (arguments more : List Found) (s : Slot) (f : Found)
-    → slots ≡ s ∷ more-slots → arguments ≡ f ∷ more → number ≡ k → next ≡ bound_value store (Private n activation number 0) s.kind f
-    → bound store n activation k slots arguments ≡ all → bound next n activation (k + 1) more-slots more ≡ all
-bound-more store next all n activation k number slots more-slots arguments more s f first-slot first is puts e =
-    ap (λ (st : Store). bound st n activation (k + 1) more-slots more) (puts ∙ ap (λ (i : ℕ). bound_value store (Private n activation i 0) s.kind f) is)
-    ∙ sym (λ i. bound store n activation k (first-slot i) (first i)) ∙ e

@@ -25,10 +25,10 @@ opening-exclusive : (p : Resolved) → Exclusive p (opening p)
 opening-exclusive p m n k exclusive (as_foot foot first runs) other = absurd (outside p m n runs)
 opening-exclusive p m n k exclusive (as_member member runs) other = absurd (outside p m n runs)
 
-opening-placed : (p : Resolved) (n : ℕ) (q : ProcessState) → slice_get (main_process p ∷ []) n ≡ Some q → IsPlaced (opening p) n q q.state
+opening-placed : (p : Resolved) (n : ℕ) (q : ProcessState) → slice_get (main_process p ∷ []) n ≡ Some q → IsPlaced (opening p) n q q.standing.state
 opening-placed p zero q is =
     let same : main_process p ≡ q = cc in
-    subst (λ (r : ProcessState). IsPlaced (opening p) 0 r r.state) same (inl (refl, λ d. d, empty 0, empty 0))
+    subst (λ (r : ProcessState). IsPlaced (opening p) 0 r r.standing.state) same (inl (refl, λ d. d, empty 0, empty 0))
 opening-placed p (suc n) q is = absurd (none-some _ is)
 
 opening-priority : (p : Resolved) (n : ℕ) (q : ProcessState) → slice_get (main_process p ∷ []) n ≡ Some q → HasItsPriority p q
@@ -37,10 +37,10 @@ opening-priority p zero q is =
     subst (λ (r : ProcessState). HasItsPriority p r) same (record { inside = λ m has. absurd (no_module has.number has.runs); outside = λ none. refl })
 opening-priority p (suc n) q is = absurd (none-some _ is)
 
-acts : (p : Resolved) (n : ℕ) → Some 0 ≡ Some n → IsOneThat (λ q. (q.state ≡ Acting) × (IsDriverKind q.kind → ⊥)) (slice_get (main_process p ∷ []) n)
+acts : (p : Resolved) (n : ℕ) → Some 0 ≡ Some n → IsOneThat (λ q. (q.standing.state ≡ Acting) × (IsDriverKind q.standing.kind → ⊥)) (slice_get (main_process p ∷ []) n)
 acts p n e =
     let zeroth : 0 ≡ n = cc in
-    subst (λ (k : ℕ). IsOneThat (λ q. (q.state ≡ Acting) × (IsDriverKind q.kind → ⊥)) (slice_get (main_process p ∷ []) k)) zeroth (refl, λ d. d)
+    subst (λ (k : ℕ). IsOneThat (λ q. (q.standing.state ≡ Acting) × (IsDriverKind q.standing.kind → ⊥)) (slice_get (main_process p ∷ []) k)) zeroth (refl, λ d. d)
 
 -- at opening the main process alone is there, is the foot, and is inside no module
 pub opening-keeps : (p : Resolved) → Keeps p (opening p)

@@ -8,3 +8,5 @@ pub mod ActionLaws
 pub mod FormLaws
 pub mod LabelLaws
 pub mod KeepLaws
+pub mod LeavingLaws
+pub mod SlotLaws

@@ -1,5 +1,5 @@
 -- Reading and writing: words of the store, device registers, bits; and what elements and fields name.
-use Rattle.std.specs.Prelude.{ℕ, ◌+◌, ◌-◌, ◌*◌, ◌/◌, ◌%◌, ◌^◌, ◌==◌, List, [], ◌∷◌, ◌++◌, Option, Some, None, Bool, true, false, ◌&&◌, slice_get, if◌then◌else◌, ℤ, pos, negsuc, ◌-ℤ◌, int_lt}
+use Rattle.std.specs.Prelude.{ℕ, ◌+◌, ◌-◌, ◌*◌, ◌/◌, ◌%◌, ◌^◌, ◌==◌, List, [], ◌∷◌, ◌++◌, length, Option, Some, None, Bool, true, false, ◌&&◌, slice_get, if◌then◌else◌, ℤ, pos, negsuc, ◌-ℤ◌, int_lt}
 use Rattle.pdp_dev.specs.declared.devices.Devices.{Devices}
 use Rattle.pdp_dev.specs.declared.register.Register.{Register}
 use Rattle.pdp_dev.specs.Register.{register_at}
@@ -102,10 +102,10 @@ abbrev pub reference_of : List Reference → ℕ → Target → Target
 reference_of [] slot own = own
 reference_of (r ∷ references) slot own = if r.slot == slot then r.target else reference_of references slot own
 
--- what a slot names in the last activation of the process n
+-- what a slot names in the last activation of the process n, which is numbered by how many stand below it
 abbrev pub slot_target : ℕ → List Activation → ℕ → Target
 slot_target n [] slot = target.Stored (Private n 0 slot 0)
-slot_target n (a ∷ activations) slot = reference_of a.references slot (target.Stored (Private n a.number slot 0))
+slot_target n (a ∷ activations) slot = reference_of a.references slot (target.Stored (Private n (length activations) slot 0))
 
 abbrev pub field_or : Option FieldInfo → ℕ
 field_or None = 0

@@ -16,8 +16,8 @@ use Rattle.mc_meaning.specs.declared.store.Found.{Found}
 use Rattle.mc_meaning.specs.declared.store.Found.TheVariants as found
 use Rattle.mc_meaning.specs.declared.store.Name.{Name}
 use Rattle.mc_meaning.specs.declared.store.Target.TheVariants as target
-use Rattle.mc_meaning.specs.Configuration.{Configuration, ProcessState, same_name}
-use Rattle.mc_meaning.specs.Calling.{arguments_of, bound, local_clears, priority_in, with_process}
+use Rattle.mc_meaning.specs.Configuration.{Configuration, ProcessState, all_stored, same_name}
+use Rattle.mc_meaning.specs.Calling.{arguments_of, first_words, local_clears, priority_in, with_process}
 
 -- a step that traps sets the trap and changes nothing else
 abbrev pub trapped : Configuration → ℕ → Configuration
@@ -32,7 +32,7 @@ same_declared (Some d) k = d == k
 -- whether the declared process was started before
 abbrev pub was_started : List ProcessState → ℕ → Bool
 was_started [] k = false
-was_started (q ∷ processes) k = same_declared q.declared k || was_started processes k
+was_started (q ∷ processes) k = same_declared q.standing.declared k || was_started processes k
 
 abbrev pub started_kind : Option ℕ → ProcessKind
 started_kind None = Regular
@@ -46,12 +46,8 @@ started_state (Some vector) = Acting
 -- the new process, of this number: its locals are set to zero one word after the other, then its text runs
 abbrev pub new_process : Resolved → ℕ → ℕ → ProcessInfo → ProcessState
 new_process p number k info = record {
-  declared = Some k;
-  kind = started_kind info.vector;
-  state = started_state info.vector;
-  priority = priority_in (slice_get p.modules info.code.«module») 0;
-  made = 1;
-  activations = record { running = running.Process k; «module» = Some info.code.«module»; before = 0; frame = info.code.frame; number = 0; references = [] } ∷ [];
+  standing = record { declared = Some k; kind = started_kind info.vector; state = started_state info.vector; priority = priority_in (slice_get p.modules info.code.«module») 0 };
+  activations = record { running = running.Process k; «module» = Some info.code.«module»; before = 0; frame = info.code.frame; references = []; found = []; rest = [] } ∷ [];
   found = [];
   rest = local_clears p number 0 0 info.code.slots ++ (Runs info.code.body ∷ (Ends ∷ []));
 }
@@ -65,7 +61,7 @@ abbrev pub started : Resolved → Configuration → ℕ → ProcessState → ℕ
 started p c n q k arguments rest info =
     let number : ℕ = length c.processes in
     record c {
-      store = bound c.store number 0 0 info.code.slots arguments;
+      store = all_stored c.store (first_words number 0 info.code.slots arguments);
       processes = slice_set c.processes n (record q { rest = rest }) ++ (new_process p number k info ∷ []);
       nest = nest_with c.nest number info.vector;
     }
@@ -79,15 +75,26 @@ start p c n q k count rest (Some info) =
 
 -- Waiting
 
--- a process leaves the nest, or leaves the foot empty
-abbrev pub vacated : Configuration → ℕ → ProcessKind → Configuration
-vacated c n Main = record c { foot = None }
-vacated c n Regular = record c { foot = None }
-vacated c n (Driver vector) = record c { nest = filter (λ m. not (m.process == n)) c.nest }
+abbrev pub in_state : State → ProcessState → ProcessState
+in_state s q = record q { standing = record q.standing { state = s } }
+
+-- all but the last
+abbrev pub lower_members : List Nested → List Nested
+lower_members [] = []
+lower_members (m ∷ []) = []
+lower_members (m ∷ (k ∷ members)) = m ∷ lower_members (k ∷ members)
+
+-- The topmost process leaves its place: the nest, or the foot where the nest is empty.
+abbrev pub vacated_by : Configuration → List Nested → Configuration
+vacated_by c [] = record c { foot = None }
+vacated_by c (m ∷ members) = record c { nest = lower_members (m ∷ members) }
+
+abbrev pub vacated : Configuration → Configuration
+vacated c = vacated_by c c.nest
 
 abbrev pub delayed : Configuration → ℕ → ProcessState → Name → ℕ → List Found → List Item → Configuration
 delayed c n q signal rank found_ rest =
-    vacated (record (with_process c n (record q { state = Delayed; found = found_; rest = rest })) { waiters = c.waiters ++ (record { signal = signal; rank = rank; process = n } ∷ []) }) n q.kind
+    vacated (record (with_process c n (record (in_state Delayed q) { found = found_; rest = rest })) { waiters = c.waiters ++ (record { signal = signal; rank = rank; process = n } ∷ []) })
 
 -- A negative rank traps 5.
 abbrev pub wait : Configuration → ℕ → ProcessState → Bool → List Item → List Found → Configuration
@@ -120,9 +127,6 @@ without_waiter waiters n = filter (λ w. not (w.process == n)) waiters
 
 -- Sending
 
-abbrev pub in_state : State → ProcessState → ProcessState
-in_state s q = record q { state = s }
-
 abbrev pub put_state : Configuration → ℕ → State → Option ProcessState → Configuration
 put_state c n s None = c
 put_state c n s (Some q) = with_process c n (in_state s q)
@@ -146,7 +150,7 @@ wakes c n w true true = c
 
 abbrev pub kind_at : Option ProcessState → ProcessKind
 kind_at None = Main
-kind_at (Some q) = q.kind
+kind_at (Some q) = q.standing.kind
 
 -- the process w waits no longer
 abbrev pub released : Configuration → ℕ → Configuration
@@ -158,7 +162,7 @@ send_to c d n kind None = d
 send_to c d n kind (Some w) = wakes (released d w.process) n w.process (is_driver kind) (is_driver (kind_at (slice_get c.processes w.process)))
 
 abbrev pub send : Configuration → ℕ → ProcessState → List Item → List Found → Configuration
-send c n q rest (found.Named (target.Stored signal) ∷ found_) = send_to c (with_process c n (record q { found = found_; rest = rest })) n q.kind (chosen c.waiters signal)
+send c n q rest (found.Named (target.Stored signal) ∷ found_) = send_to c (with_process c n (record q { found = found_; rest = rest })) n q.standing.kind (chosen c.waiters signal)
 send c n q rest other = c
 
 abbrev pub is_waited_for : List Waiter → Name → Bool
@@ -168,8 +172,8 @@ is_waited_for waiters signal = is_some (least_rank waiters signal)
 
 -- a device process stands at its doio, out of the nest
 abbrev pub stand_at_doio : Configuration → ℕ → ProcessState → List Item → Configuration
-stand_at_doio c n q rest = vacated (with_process c n (record q { state = AtDoio; rest = rest })) n q.kind
+stand_at_doio c n q rest = vacated (with_process c n (record (in_state AtDoio q) { rest = rest }))
 
 -- An ended process keeps its last activation and its priority.
 abbrev pub finish : Configuration → ℕ → ProcessState → List Item → Configuration
-finish c n q rest = vacated (with_process c n (record q { state = Ended; rest = rest })) n q.kind
+finish c n q rest = vacated (with_process c n (record (in_state Ended q) { rest = rest }))

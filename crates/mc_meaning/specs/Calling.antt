@@ -1,5 +1,5 @@
 -- Calls: activations with their parameters, and their ends.
-use Rattle.std.specs.Prelude.{ℕ, zero, suc, ◌+◌, List, [], ◌∷◌, ◌++◌, Option, Some, None, slice_get, slice_set, take, drop, reverse}
+use Rattle.std.specs.Prelude.{ℕ, zero, suc, ◌+◌, List, [], ◌∷◌, ◌++◌, length, Option, Some, None, slice_get, slice_set, take, drop, reverse}
 use Rattle.mc_prog.specs.declared.program.CodeInfo.{CodeInfo}
 use Rattle.mc_prog.specs.declared.program.Form.{Form}
 use Rattle.mc_prog.specs.declared.program.Form.TheVariants as form
@@ -23,7 +23,7 @@ use Rattle.mc_meaning.specs.declared.store.Name.{Name}
 use Rattle.mc_meaning.specs.declared.store.Name.TheVariants.{Private}
 use Rattle.mc_meaning.specs.declared.store.Source.TheVariants as source
 use Rattle.mc_meaning.specs.declared.store.Target.TheVariants as target
-use Rattle.mc_meaning.specs.Configuration.{Configuration, ProcessState, Store, stored}
+use Rattle.mc_meaning.specs.Configuration.{Configuration, ProcessState, Store, all_stored}
 use Rattle.mc_meaning.specs.Access.{moved_name}
 use Rattle.mc_meaning.specs.Parts.{form_at}
 
@@ -78,15 +78,15 @@ abbrev pub local_clears : Resolved → ℕ → ℕ → ℕ → List Slot → Lis
 local_clears p n activation k [] = []
 local_clears p n activation k (s ∷ slots_) = slot_clears p (Private n activation k 0) s.type_of s.kind ++ local_clears p n activation (k + 1) slots_
 
--- the store with a scalar parameter
-abbrev pub bound_value : Store → Name → SlotKind → Found → Store
-bound_value store name slots.Constant (found.Value w) = stored store name w
-bound_value store name kind_ other = store
+abbrev pub scalar_for : Name → SlotKind → Found → List (Name × ℕ)
+scalar_for name slots.Constant (found.Value w) = (name, w) ∷ []
+scalar_for name kind_ other = []
 
-abbrev pub bound : Store → ℕ → ℕ → ℕ → List Slot → List Found → Store
-bound store n activation k slots_ [] = store
-bound store n activation k [] (f ∷ arguments) = store
-bound store n activation k (s ∷ slots_) (f ∷ arguments) = bound (bound_value store (Private n activation k 0) s.kind f) n activation (k + 1) slots_ arguments
+-- the words of the scalar parameters
+abbrev pub scalars_for : ℕ → ℕ → ℕ → List Slot → List Found → List (Name × ℕ)
+scalars_for n activation k slots_ [] = []
+scalars_for n activation k [] (f ∷ arguments) = []
+scalars_for n activation k (s ∷ slots_) (f ∷ arguments) = scalar_for (Private n activation k 0) s.kind f ++ scalars_for n activation (k + 1) slots_ arguments
 
 abbrev pub reference_for : ℕ → SlotKind → Found → List Reference
 reference_for k slots.Variable (found.Named there) = record { slot = k; target = there } ∷ []
@@ -121,36 +121,47 @@ abbrev pub result_slot : ℕ → List Slot → Option ℕ
 result_slot k [] = None
 result_slot k (s ∷ slots_) = result_from k s.kind (result_slot (k + 1) slots_)
 
+abbrev pub zero_for : ℕ → ℕ → Option ℕ → List (Name × ℕ)
+zero_for n activation None = []
+zero_for n activation (Some slot) = (Private n activation slot 0, 0) ∷ []
+
+-- the words that an activation begins with: 0 for its result, where it has one, and its scalar parameters
+abbrev pub first_words : ℕ → ℕ → List Slot → List Found → List (Name × ℕ)
+first_words n activation slots_ arguments = zero_for n activation (result_slot 0 slots_) ++ scalars_for n activation 0 slots_ arguments
+
 -- Entering and leaving
 
 -- the arguments of a call in their order: those that were found last
 abbrev pub arguments_of : ℕ → List Found → List Found
 arguments_of count found_ = reverse (take count found_)
 
--- the process with an activation of what runs, at this priority
-abbrev pub entered : ProcessState → Running → ℕ → ℕ → List Reference → ℕ → ProcessState
-entered q runs in_module frame references priority = record q {
-  priority = priority;
-  made = q.made + 1;
-  activations = record { running = runs; «module» = Some in_module; before = q.priority; frame = frame; number = q.made; references = references } ∷ q.activations;
+abbrev pub at_priority : ProcessState → ℕ → ProcessState
+at_priority q priority = record q { standing = record q.standing { priority = priority } }
+
+-- The process with an activation of what runs, at this priority. What its caller has found, and has still to do, is put by in
+-- the activation.
+abbrev pub entered : ProcessState → List Item → Running → ℕ → ℕ → List Reference → ℕ → ProcessState
+entered q rest runs in_module frame references priority = record (at_priority q priority) {
+  activations = record { running = runs; «module» = Some in_module; before = q.standing.priority; frame = frame; references = references; found = q.found; rest = rest } ∷ q.activations;
+  found = [];
 }
 
 abbrev pub enter_body : Resolved → Configuration → ℕ → ProcessState → ℕ → List Item → Option ModuleInfo → Configuration
 enter_body p c n q m rest None = c
 enter_body p c n q m rest (Some x) =
-    with_process c n (record (entered q (running.Body m) m x.body.frame [] (priority_inside x.kind x.priority q.priority)) { rest = Runs x.body.body ∷ (Returns None ∷ rest) })
+    with_process c n (record (entered q rest (running.Body m) m x.body.frame [] (priority_inside x.kind x.priority q.standing.priority)) { rest = Runs x.body.body ∷ (Returns None ∷ []) })
 
 -- what a call has to do: the words of its structured parameters, those of its locals, its body, and its end
-abbrev pub called_items : Resolved → ℕ → ℕ → CodeInfo → List Found → List Item → List Item
-called_items p n activation code arguments rest =
-    copies p n activation 0 code.slots arguments ++ (local_clears p n activation 0 code.slots ++ (Runs code.body ∷ (Returns (result_slot 0 code.slots) ∷ rest)))
+abbrev pub called_items : Resolved → ℕ → ℕ → CodeInfo → List Found → List Item
+called_items p n activation code arguments =
+    copies p n activation 0 code.slots arguments ++ (local_clears p n activation 0 code.slots ++ (Runs code.body ∷ (Returns (result_slot 0 code.slots) ∷ [])))
 
--- A call makes the activation with its scalar and `var` parameters.
+-- A call makes the activation with its scalar and `var` parameters, and with 0 for its result.
 abbrev pub called : Resolved → Configuration → ℕ → ProcessState → ℕ → CodeInfo → List Found → List Item → Configuration
 called p c n q k code arguments rest =
-    record (with_process c n (record (entered q (running.Procedure k) code.«module» code.frame (references_for 0 code.slots arguments) (priority_in (slice_get p.modules code.«module») q.priority)) {
-      rest = called_items p n q.made code arguments rest;
-    })) { store = bound c.store n q.made 0 code.slots arguments }
+    record (with_process c n (record (entered q rest (running.Procedure k) code.«module» code.frame (references_for 0 code.slots arguments) (priority_in (slice_get p.modules code.«module») q.standing.priority)) {
+      rest = called_items p n (length q.activations) code arguments;
+    })) { store = all_stored c.store (first_words n (length q.activations) code.slots arguments) }
 
 abbrev pub enter_procedure : Resolved → Configuration → ℕ → ProcessState → ℕ → ℕ → List Item → Option CodeInfo → Configuration
 enter_procedure p c n q k count rest None = c
@@ -160,8 +171,13 @@ abbrev pub with_result : Store → ℕ → ℕ → Option ℕ → List Found →
 with_result store n activation None found_ = found_
 with_result store n activation (Some slot) found_ = found.Value (store (Private n activation slot 0)) ∷ found_
 
--- The end of a call restores the priority and gives the result.
-abbrev pub leave : Configuration → ℕ → ProcessState → Option ℕ → List Item → List Activation → Configuration
-leave c n q result rest [] = c
-leave c n q result rest (a ∷ activations) =
-    with_process c n (record q { priority = a.before; activations = activations; found = with_result c.store n a.number result q.found; rest = rest })
+-- the process behind its last activation: at the priority before it, with what its caller had found and has still to do
+abbrev pub returned : ProcessState → List Activation → ProcessState
+returned q [] = q
+returned q (a ∷ activations) = record (at_priority q a.before) { activations = activations; found = a.found; rest = a.rest }
+
+-- The end of a call restores the priority and what its caller was at, and gives the result.
+abbrev pub leave : Configuration → ℕ → ProcessState → Option ℕ → List Activation → Configuration
+leave c n q result [] = c
+leave c n q result (a ∷ activations) =
+    with_process c n (record (returned q (a ∷ activations)) { found = with_result c.store n (length activations) result a.found })

@@ -10,9 +10,9 @@ use Rattle.mc_meaning.specs.declared.config.Waiter.{Waiter}
 use Rattle.mc_meaning.specs.declared.process.Activation.{Activation}
 use Rattle.mc_meaning.specs.declared.process.Item.{Item}
 use Rattle.mc_meaning.specs.declared.process.Item.TheVariants.{Runs, Ends}
-use Rattle.mc_meaning.specs.declared.process.ProcessKind.{ProcessKind}
 use Rattle.mc_meaning.specs.declared.process.ProcessKind.TheVariants.{Main}
 use Rattle.mc_meaning.specs.declared.process.Running.TheVariants as running
+use Rattle.mc_meaning.specs.declared.process.Standing.{Standing}
 use Rattle.mc_meaning.specs.declared.process.State.{State}
 use Rattle.mc_meaning.specs.declared.process.State.TheVariants.{Acting, Ready, Delayed, AtDoio, Ended}
 use Rattle.mc_meaning.specs.declared.store.Found.{Found}
@@ -33,17 +33,17 @@ same_name (Private p a s w) (Variable d v) = false
 abbrev pub stored : Store → Name → ℕ → Store
 stored store name word other = if same_name name other then word else store other
 
+-- the store in which these words have been written, one after the other
+abbrev pub all_stored : Store → List (Name × ℕ) → Store
+all_stored store [] = store
+all_stored store (w ∷ words) = all_stored (stored store w.0 w.1) words
+
 pub record ProcessState : Type 0 where
-  -- the declared process that it runs, which the main process lacks
-  pub declared : Option ℕ
-  pub kind : ProcessKind
-  pub state : State
-  pub priority : ℕ
-  -- how many activations it has made
-  pub made : ℕ
-  -- the last one first
+  -- the declared process that it runs, its kind, its state and its priority
+  pub standing : Standing
+  -- those that have not returned, the last one first; each is numbered by how many stand below it
   pub activations : List Activation
-  -- what has been found, the last first, and what is still to do
+  -- what the last activation has found, the last first, and what it has still to do
   pub found : List Found
   pub rest : List Item
 
@@ -63,16 +63,12 @@ pub record Configuration : Type 0 where
 
 -- the main process's own text is of no module
 abbrev pub main_activation : Resolved → Activation
-main_activation p = record { running = running.Main; «module» = None; before = 0; frame = p.main.frame; number = 0; references = [] }
+main_activation p = record { running = running.Main; «module» = None; before = 0; frame = p.main.frame; references = []; found = []; rest = [] }
 
 -- the main process has to run the bodies of the modules, and then ends
 abbrev pub main_process : Resolved → ProcessState
 main_process p = record {
-  declared = None;
-  kind = Main;
-  state = Acting;
-  priority = 0;
-  made = 1;
+  standing = record { declared = None; kind = Main; state = Acting; priority = 0 };
   activations = main_activation p ∷ [];
   found = [];
   rest = Runs p.main.body ∷ (Ends ∷ []);
@@ -101,7 +97,7 @@ topmost c = topmost_of c.foot c.nest
 
 abbrev pub priority_of : Option ProcessState → ℕ
 priority_of None = 0
-priority_of (Some q) = q.priority
+priority_of (Some q) = q.standing.priority
 
 abbrev pub priority_at : Configuration → Option ℕ → ℕ
 priority_at c None = 0
@@ -125,7 +121,7 @@ is_live AtDoio = 1
 -- how many processes have not ended
 abbrev pub live : List ProcessState → ℕ
 live [] = 0
-live (q ∷ processes) = is_live q.state + live processes
+live (q ∷ processes) = is_live q.standing.state + live processes
 
 abbrev pub is_ready : State → Bool
 is_ready Ready = true
@@ -133,4 +129,4 @@ is_ready other = false
 
 abbrev pub IsNoneReady : List ProcessState → Type 0
 IsNoneReady [] = Unit {0}
-IsNoneReady (q ∷ processes) = (is_ready q.state ≡ false) × IsNoneReady processes
+IsNoneReady (q ∷ processes) = (is_ready q.standing.state ≡ false) × IsNoneReady processes

@@ -38,7 +38,7 @@ is_at_doio other = false
 abbrev pub standing_at : ℕ → ℕ → List ProcessState → Option ℕ
 standing_at vector n [] = None
 standing_at vector n (q ∷ processes) =
-    if is_at_doio q.state && is_driver_of vector q.kind then Some n else standing_at vector (n + 1) processes
+    if is_at_doio q.standing.state && is_driver_of vector q.standing.kind then Some n else standing_at vector (n + 1) processes
 
 -- the nest, with the process that joins it
 abbrev pub nest_above : List Nested → Option ℕ → List Nested
@@ -75,7 +75,7 @@ steps program c (Chooses p) = after_choice c p
 
 abbrev pub is_ready_process : Option ProcessState → Bool
 is_ready_process None = false
-is_ready_process (Some q) = is_ready q.state
+is_ready_process (Some q) = is_ready q.standing.state
 
 abbrev pub CanChoose : Configuration → ℕ → Type 0
 CanChoose c p =

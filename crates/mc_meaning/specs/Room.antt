@@ -67,11 +67,11 @@ IsDriverKind other = ⊥
 -- Each process is in one place, by its state: the foot or the nest, among the waiters, or in none of these.
 abbrev pub IsPlaced : Configuration → ℕ → ProcessState → State → Type 0
 IsPlaced c n q Acting =
-    ((c.foot ≡ Some n) × (IsDriverKind q.kind → ⊥) × (Contains (members_of c.nest) n → ⊥) × (Contains (waiting_of c.waiters) n → ⊥))
-    ⊎ (Contains (members_of c.nest) n × IsDriverKind q.kind × (c.foot ≢ Some n) × (Contains (waiting_of c.waiters) n → ⊥))
-IsPlaced c n q Ready = IsAtNone c n × (IsDriverKind q.kind → ⊥)
+    ((c.foot ≡ Some n) × (IsDriverKind q.standing.kind → ⊥) × (Contains (members_of c.nest) n → ⊥) × (Contains (waiting_of c.waiters) n → ⊥))
+    ⊎ (Contains (members_of c.nest) n × IsDriverKind q.standing.kind × (c.foot ≢ Some n) × (Contains (waiting_of c.waiters) n → ⊥))
+IsPlaced c n q Ready = IsAtNone c n × (IsDriverKind q.standing.kind → ⊥)
 IsPlaced c n q Delayed = (c.foot ≢ Some n) × (Contains (members_of c.nest) n → ⊥) × Contains (waiting_of c.waiters) n
-IsPlaced c n q AtDoio = IsAtNone c n × IsDriverKind q.kind
+IsPlaced c n q AtDoio = IsAtNone c n × IsDriverKind q.standing.kind
 IsPlaced c n q Ended = IsAtNone c n
 
 -- a process is there that stands so
@@ -82,9 +82,9 @@ IsOneThat stands (Some q) = stands q
 -- The numbers in the three places are those of processes: that of the foot acts and is no device process, those of the nest act
 -- and are device processes, and those of waiters are delayed.
 pub record AreProcesses (c : Configuration) : Type 0 where
-  pub foot : (n : ℕ) → c.foot ≡ Some n → IsOneThat (λ q. (q.state ≡ Acting) × (IsDriverKind q.kind → ⊥)) (slice_get c.processes n)
-  pub nest : (n : ℕ) → Contains (members_of c.nest) n → IsOneThat (λ q. (q.state ≡ Acting) × IsDriverKind q.kind) (slice_get c.processes n)
-  pub waiters : (n : ℕ) → Contains (waiting_of c.waiters) n → IsOneThat (λ q. q.state ≡ Delayed) (slice_get c.processes n)
+  pub foot : (n : ℕ) → c.foot ≡ Some n → IsOneThat (λ q. (q.standing.state ≡ Acting) × (IsDriverKind q.standing.kind → ⊥)) (slice_get c.processes n)
+  pub nest : (n : ℕ) → Contains (members_of c.nest) n → IsOneThat (λ q. (q.standing.state ≡ Acting) × IsDriverKind q.standing.kind) (slice_get c.processes n)
+  pub waiters : (n : ℕ) → Contains (waiting_of c.waiters) n → IsOneThat (λ q. q.standing.state ≡ Delayed) (slice_get c.processes n)
 
 -- none stands twice
 abbrev pub AreDifferent : List ℕ → Type 0
@@ -112,12 +112,12 @@ pub record HasDevice (p : Resolved) (q : ProcessState) (m : ModuleInfo) : Type 0
 
 -- a process with an activation of a device module has its priority, and every other has 0
 pub record HasItsPriority (p : Resolved) (q : ProcessState) : Type 0 where
-  pub inside : (m : ModuleInfo) → HasDevice p q m → q.priority ≡ m.priority
-  pub outside : ((m : ModuleInfo) → HasDevice p q m → ⊥) → q.priority ≡ 0
+  pub inside : (m : ModuleInfo) → HasDevice p q m → q.standing.priority ≡ m.priority
+  pub outside : ((m : ModuleInfo) → HasDevice p q m → ⊥) → q.standing.priority ≡ 0
 
 pub record Keeps (p : Resolved) (c : Configuration) : Type 0 where
   pub exclusive : Exclusive p c
-  pub placed : (n : ℕ) (q : ProcessState) → slice_get c.processes n ≡ Some q → IsPlaced c n q q.state
+  pub placed : (n : ℕ) (q : ProcessState) → slice_get c.processes n ≡ Some q → IsPlaced c n q q.standing.state
   pub processes : AreProcesses c
   pub once : AreDifferent (members_of c.nest) × AreDifferent (waiting_of c.waiters)
   pub nested : AreNested c c.nest

@@ -204,7 +204,7 @@ next p c n q (Waits ranked ∷ rest) = wait c n q ranked rest q.found
 next p c n q (Sends ∷ rest) = send c n q rest q.found
 next p c n q (Awaits ∷ rest) = await c n q rest q.found
 next p c n q (StandsAtDoio ∷ rest) = stand_at_doio c n q rest
-next p c n q (Returns result ∷ rest) = leave c n q result rest q.activations
+next p c n q (Returns result ∷ rest) = leave c n q result q.activations
 next p c n q (Ends ∷ rest) = finish c n q rest
 
 abbrev pub next_of : Resolved → Configuration → ℕ → Option ProcessState → Configuration

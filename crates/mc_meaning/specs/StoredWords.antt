@@ -1,5 +1,5 @@
 -- What the two maps of a store have under a name.
-use Rattle.std.specs.Prelude.{ℕ, Bool, unwrap_or}
+use Rattle.std.specs.Prelude.{◌≡◌, ℕ, Bool, true, is_some, List, [], ◌∷◌, unwrap_or}
 use Rattle.std.specs.Map.{lookup}
 use Rattle.std.specs.BTreeMap.{BTreeMap}
 use Rattle.std.specs.Ordering.{nat_cmp, ordering_then, is_eq}
@@ -27,3 +27,18 @@ word_under variables privates (Private process activation slot word) = unwrap_or
 -- the store that the two maps are
 abbrev pub words_in : Words → Store
 words_in words = word_under words.variables words.privates
+
+-- A word that was noted has an entry in its map: to write it again takes no memory.
+abbrev pub noted_under : BTreeMap VariableKey ℕ → BTreeMap PrivateKey ℕ → Name → Bool
+noted_under variables privates (Variable cell word) = is_some (lookup (is_variable (cell, word)) variables.entries)
+noted_under variables privates (Private process activation slot word) = is_some (lookup (is_private (process, activation, slot, word)) privates.entries)
+
+abbrev pub is_noted : Words → Name → Bool
+is_noted words = noted_under words.variables words.privates
+
+abbrev pub AreNoted : Words → List (Name × ℕ) → Type 0
+AreNoted words [] = Unit {0}
+AreNoted words (w ∷ all) = (is_noted words w.0 ≡ true) × AreNoted words all
+
+abbrev pub KeepsNotes : Words → Words → Type 0
+KeepsNotes old new = (name : Name) → is_noted old name ≡ true → is_noted new name ≡ true

@@ -89,7 +89,7 @@ pub(crate) fn slot_target(n: u32, q: &Process, slot: u32) -> Target
 {
     match q.last_activation() {
         Some(activation) => {
-            let own = Target::Stored(Name::Private(n, activation.number, slot, 0));
+            let own = Target::Stored(Name::Private(n, q.depth() - 1, slot, 0));
             reference_of(activation.references.references.as_slice(), slot, own)
         }
         None => Target::Stored(Name::Private(n, 0, slot, 0)),

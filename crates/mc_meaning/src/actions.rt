@@ -171,10 +171,9 @@ fn delay(
         rank,
         process,
     })?;
-    let kind = q.kind();
     q.set_state(State::Delayed);
     config.goes_on(n, q, rest);
-    config.vacates(n, kind);
+    config.vacates();
     Ok(())
 }
 
@@ -304,7 +303,7 @@ fn send_to(
     waiter: u32,
     rest: &mut VecDeque<Item>,
 ) -> Result<(), Memory>
-    ensures ok { OnOk result (configuration_of config.new ≡ wakes (released (goes_on (configuration_of config.old) n q.old q.old.found rest.old.items) waiter) n waiter (is_driver q.old.kind) (is_driver (kind_at (slice_get (configuration_of config.old).processes waiter)))) }
+    ensures ok { OnOk result (configuration_of config.new ≡ wakes (released (goes_on (configuration_of config.old) n q.old q.old.found rest.old.items) waiter) n waiter (is_driver q.old.standing.kind) (is_driver (kind_at (slice_get (configuration_of config.old).processes waiter)))) }
     ensures err { OnErr result (configuration_of config.new ≡ configuration_of config.old) }
 {
     let to_driver = is_driver(config.kind_of(waiter));
@@ -365,18 +364,16 @@ pub(crate) fn await_(
 pub(crate) fn stand_at_doio(config: &mut Config, n: u32, q: &mut Process, rest: &mut VecDeque<Item>)
     ensures { configuration_of config.new ≡ stand_at_doio (configuration_of config.old) n q.old rest.old.items }
 {
-    let kind = q.kind();
     q.set_state(State::AtDoio);
     config.goes_on(n, q, rest);
-    config.vacates(n, kind);
+    config.vacates();
 }
 
 /// A process ends, and keeps its last activation and its priority.
 pub(crate) fn finish(config: &mut Config, n: u32, q: &mut Process, rest: &mut VecDeque<Item>)
     ensures { configuration_of config.new ≡ finish (configuration_of config.old) n q.old rest.old.items }
 {
-    let kind = q.kind();
     q.set_state(State::Ended);
     config.goes_on(n, q, rest);
-    config.vacates(n, kind);
+    config.vacates();
 }

@@ -2,18 +2,16 @@
 
 ghost use Rattle.std.specs.Prelude.{◌≡◌, ◌++◌, IfOk, OnOk, OnErr, slice_get};
 ghost use Rattle.mc_meaning.specs.Parts.{form_at};
-ghost use Rattle.mc_meaning.specs.Calling.{bound, bound_value, called, called_items, enter_procedure, byte_moves, clears, copies, enter_body, leave, local_clears, moves, parameter_moves, priority_in, priority_inside, reference_for, references_for, result_from, result_slot, slot_clears, text_of, with_result, word_moves};
+ghost use Rattle.mc_meaning.specs.Calling.{called, called_items, first_words, scalar_for, scalars_for, zero_for, enter_procedure, byte_moves, clears, copies, enter_body, leave, local_clears, moves, parameter_moves, priority_in, priority_inside, reference_for, references_for, result_from, result_slot, slot_clears, text_of, with_result, word_moves};
 ghost use Rattle.mc_meaning.specs.Kept.{configuration_of};
-ghost use Rattle.mc_meaning.specs.StoredWords.{words_in};
 
 use crate::access::moved_name;
 use crate::configuration::Config;
-use crate::evaluation::put_in_front;
 use crate::parts::{module_at, number, words_of};
 use crate::process::{Item, Process, Reference, References, Running};
 use crate::store::{Found, Name, Source, Target};
-use crate::words::Words;
 use mc_prog::program::{CodeInfo, Form, ModuleKind, Program, Slot, SlotKind};
+use mc_word::Word;
 use mc_word::bytes::Memory;
 use std::alloc::Global;
 use std::collections::VecDeque;
@@ -213,30 +211,38 @@ pub(crate) fn copies(
     Ok(())
 }
 
-// Writes a scalar parameter.
-fn bind_value(store: &mut Words, name: Name, kind: SlotKind, found: Found) -> Result<(), Memory>
-    ensures { OnOk result (words_in store.new ≡ bound_value (words_in store.old) name kind found) }
+// The word of a scalar parameter.
+fn scalar_for(
+    words: &mut Vec<(Name, Word)>,
+    name: Name,
+    kind: SlotKind,
+    found: Found,
+) -> Result<(), Memory>
+    ensures { OnOk result (words.new.items ≡ words.old.items ++ scalar_for name kind found) }
 {
     match (kind, found) {
-        (SlotKind::Constant, Found::Value(word)) => store.put(name, word),
+        (SlotKind::Constant, Found::Value(word)) => {
+            words.push((name, word))?;
+            Ok(())
+        }
         _ => Ok(()),
     }
 }
 
-/// Writes the scalar parameters of an activation.
-pub(crate) fn bind(
-    store: &mut Words,
+// The words of the scalar parameters of an activation.
+fn scalars_for(
+    words: &mut Vec<(Name, Word)>,
     n: u32,
     activation: u64,
     slots: &[Slot],
     arguments: &[Found],
 ) -> Result<(), Memory>
-    ensures { OnOk result (words_in store.new ≡ bound (words_in store.old) n activation 0 slots.now arguments.now) }
+    ensures { OnOk result (words.new.items ≡ words.old.items ++ scalars_for n activation 0 slots.now arguments.now) }
 {
     let mut k = 0;
     while k < slots.len() && k < arguments.len() {
         let name = Name::Private(n, activation, number(k)?, 0);
-        bind_value(store, name, slots[k].kind, arguments[k])?;
+        scalar_for(words, name, slots[k].kind, arguments[k])?;
         k += 1;
     }
     Ok(())
@@ -271,34 +277,74 @@ pub(crate) fn enter_body(
     let Some(info) = module_at(program, m) else {
         return Ok(());
     };
-    rest.push_front(Item::Returns(None))?;
-    rest.push_front(Item::Runs(info.body.body))?;
+    let alloc = *rest.allocator();
     let priority = priority_inside(info.kind, info.priority, q.priority());
-    let references = References::none(*rest.allocator());
-    q.enters(Running::Body(m), m, info.body.frame, references, priority)?;
-    config.goes_on(n, q, rest);
+    let references = References::none(alloc);
+    q.enters(
+        rest,
+        Running::Body(m),
+        m,
+        info.body.frame,
+        references,
+        priority,
+    )?;
+    let mut items = VecDeque::from_vec(vec![in alloc;
+        Item::Runs(info.body.body),
+        Item::Returns(None),
+    ]?);
+    config.goes_on(n, q, &mut items);
     Ok(())
 }
 
+// The word of a result of 0, where there is one.
+fn zero_for(
+    alloc: Global,
+    n: u32,
+    activation: u64,
+    slot: Option<u32>,
+) -> Result<Vec<(Name, Word)>, Memory>
+    ensures { IfOk result (λ words. words.items ≡ zero_for n activation slot) }
+{
+    match slot {
+        Some(slot) => Ok(vec![in alloc; (Name::Private(n, activation, slot, 0), 0)]?),
+        None => Ok(Vec::new(alloc)),
+    }
+}
+
+/// The words that an activation begins with: 0 for its result, where it has one, and its scalar parameters.
+pub(crate) fn first_words(
+    alloc: Global,
+    n: u32,
+    activation: u64,
+    slots: &[Slot],
+    arguments: &[Found],
+) -> Result<Vec<(Name, Word)>, Memory>
+    ensures { IfOk result (λ words. words.items ≡ first_words n activation slots.now arguments.now) }
+{
+    let mut words = zero_for(alloc, n, activation, result_slot(slots)?)?;
+    scalars_for(&mut words, n, activation, slots, arguments)?;
+    Ok(words)
+}
+
 // What a call has to do: its copies, its locals, its body and its end.
-fn put_call(
-    rest: &mut VecDeque<Item>,
+fn called_items(
+    alloc: Global,
     program: &Program,
     n: u32,
     activation: u64,
     code: &CodeInfo,
     arguments: &[Found],
-) -> Result<(), Memory>
-    ensures { OnOk result (rest.new.items ≡ called_items program.now n activation code.now arguments.now rest.old.items) }
+) -> Result<VecDeque<Item>, Memory>
+    ensures { IfOk result (λ items. items.items ≡ called_items program.now n activation code.now arguments.now) }
 {
     let slots = code.slots.slots.as_slice();
     let slot = result_slot(slots)?;
-    let mut items = Vec::new(*rest.allocator());
+    let mut items = Vec::new(alloc);
     copies(&mut items, program, n, activation, slots, arguments)?;
     local_clears(&mut items, program, n, activation, slots)?;
-    rest.push_front(Item::Returns(slot))?;
-    rest.push_front(Item::Runs(code.body))?;
-    put_in_front(rest, items.as_slice())
+    items.push(Item::Runs(code.body))?;
+    items.push(Item::Returns(slot))?;
+    Ok(VecDeque::from_vec(items))
 }
 
 // A process makes the activation of a procedure with these arguments, and goes on.
@@ -315,21 +361,23 @@ fn call(
     ensures ok { OnOk result (configuration_of config.new ≡ called program.now (configuration_of config.old) n q.old k code.now arguments.now rest.old.items) }
     ensures err { OnErr result (configuration_of config.new ≡ configuration_of config.old) }
 {
+    let alloc = *rest.allocator();
     let slots = code.slots.slots.as_slice();
-    let made = q.made();
-    put_call(rest, program, n, made, code, arguments)?;
-    let references = references_for(*rest.allocator(), slots, arguments)?;
+    let depth = q.depth();
+    let mut items = called_items(alloc, program, n, depth, code, arguments)?;
+    let references = references_for(alloc, slots, arguments)?;
     let priority = priority_in(program, code.module, q.priority());
     let module = u32::from(code.module);
     q.enters(
+        rest,
         Running::Procedure(k),
         module,
         code.frame,
         references,
         priority,
     )?;
-    config.binds(n, made, slots, arguments)?;
-    config.goes_on(n, q, rest);
+    config.binds(n, depth, slots, arguments)?;
+    config.goes_on(n, q, &mut items);
     Ok(())
 }
 
@@ -353,26 +401,25 @@ pub(crate) fn enter_procedure(
     call(program, config, n, q, k, code, arguments.as_slice(), rest)
 }
 
-/// The end of a call restores the priority and gives the result.
+/// The end of a call restores the priority and what its caller was at, and gives the result.
 pub(crate) fn leave(
     config: &mut Config,
     n: u32,
     q: &mut Process,
     slot: Option<u32>,
-    rest: &mut VecDeque<Item>,
 ) -> Result<(), Memory>
-    ensures ok { OnOk result (configuration_of config.new ≡ leave (configuration_of config.old) n q.old slot rest.old.items q.old.activations) }
+    ensures ok { OnOk result (configuration_of config.new ≡ leave (configuration_of config.old) n q.old slot q.old.activations) }
     ensures err { OnErr result (configuration_of config.new ≡ configuration_of config.old) }
 {
-    let Some(activation) = q.leaves() else {
+    if !q.returns() {
         return Ok(());
-    };
+    }
     let Some(slot) = slot else {
-        config.goes_on(n, q, rest);
+        config.put_process(n, q);
         return Ok(());
     };
-    let word = config.word(Name::Private(n, activation.number, slot, 0));
+    let word = config.word(Name::Private(n, q.depth(), slot, 0));
     q.push_found(Found::Value(word))?;
-    config.goes_on(n, q, rest);
+    config.put_process(n, q);
     Ok(())
 }

@@ -4,8 +4,8 @@ ghost use Rattle.std.specs.Prelude.{◌≡◌, ◌∷◌, ◌++◌, [], IfOk, Ma
 ghost use Rattle.mc_prog.specs.Values.{truth};
 ghost use Rattle.mc_meaning.specs.Access.{after_reading, after_writing, after_writing_bit, moved_word, register_written, word_at};
 ghost use Rattle.mc_meaning.specs.Actions.{kind_at, nest_with, set_state, trapped, vacated, was_started, without_waiter};
-ghost use Rattle.mc_meaning.specs.Calling.{bound, with_process};
-ghost use Rattle.mc_meaning.specs.Configuration.{opening, stored, topmost};
+ghost use Rattle.mc_meaning.specs.Calling.{first_words, with_process};
+ghost use Rattle.mc_meaning.specs.Configuration.{all_stored, opening, stored, topmost};
 ghost use Rattle.mc_meaning.specs.Kept.{configuration_of};
 ghost use Rattle.mc_meaning.specs.Room.{Keeps};
 ghost use Rattle.mc_meaning.specs.Steps.{goes_on};
@@ -13,7 +13,7 @@ ghost use Rattle.mc_meaning.specs.Steps.{goes_on};
 mod moves;
 
 use crate::access::with_bit;
-use crate::calling::bind;
+use crate::calling::first_words;
 use crate::config::{Mark, Nested, Waiter};
 use crate::parts::number;
 use crate::process::{Item, Process, ProcessKind, State};
@@ -221,7 +221,7 @@ impl Config {
         }
     }
 
-    /// Writes the scalar parameters of an activation.
+    /// Writes the words that an activation begins with.
     pub(crate) fn binds(
         &mut self,
         n: u32,
@@ -229,12 +229,13 @@ impl Config {
         slots: &[Slot],
         arguments: &[Found],
     ) -> Result<(), Memory>
-        ensures ok { OnOk result (configuration_of self.new ≡ record (configuration_of self.old) { store = bound (configuration_of self.old).store n activation 0 slots.now arguments.now }) }
+        ensures ok { OnOk result (configuration_of self.new ≡ record (configuration_of self.old) { store = all_stored (configuration_of self.old).store (first_words n activation slots.now arguments.now) }) }
         ensures err { OnErr result (configuration_of self.new ≡ configuration_of self.old) }
     {
-        let mut store = self.store.copy()?;
-        bind(&mut store, n, activation, slots, arguments)?;
-        self.store = store;
+        let alloc = *self.nest.allocator();
+        let words = first_words(alloc, n, activation, slots, arguments)?;
+        self.store.note_all(words.as_slice())?;
+        self.store.put_all(words.as_slice());
         Ok(())
     }
 
@@ -255,13 +256,12 @@ impl Config {
         }
     }
 
-    /// A process leaves the nest, or leaves the foot empty.
-    pub(crate) fn vacates(&mut self, n: u32, kind: ProcessKind)
-        ensures { configuration_of self.new ≡ vacated (configuration_of self.old) n kind }
+    /// The topmost process leaves its place: the nest, or the foot where the nest is empty.
+    pub(crate) fn vacates(&mut self)
+        ensures { configuration_of self.new ≡ vacated (configuration_of self.old) }
     {
-        match kind {
-            ProcessKind::Main | ProcessKind::Regular => self.foot = None,
-            ProcessKind::Driver(_) => self.nest.retain(|member| member.process != n),
+        if self.nest.pop().is_none() {
+            self.foot = None;
         }
     }
 
@@ -343,6 +343,7 @@ impl Config {
     fn adds_process(&mut self, n: u32, q: &mut Process, process: Process) -> Result<(), Memory>
         ensures ok { OnOk result (configuration_of self.new ≡ record (configuration_of self.old) { processes = slice_set (configuration_of self.old).processes n q.old ++ (process ∷ []) }) }
         ensures err { OnErr result (configuration_of self.new ≡ configuration_of self.old) }
+        ensures store { self.new.store ≡ self.old.store }
     {
         let n = n as usize;
         let is_there = n < self.processes.len();
@@ -353,8 +354,8 @@ impl Config {
         Ok(())
     }
 
-    /// A process goes on, and another one of this number is started: its scalar parameters are written, and a device
-    /// process joins the nest.
+    /// A process goes on, and another one of this number is started: the words that it begins with are written, and a
+    /// device process joins the nest.
     pub(crate) fn starts(
         &mut self,
         n: u32,
@@ -365,14 +366,15 @@ impl Config {
         vector: Option<Word>,
         arguments: &[Found],
     ) -> Result<(), Memory>
-        ensures ok { OnOk result (configuration_of self.new ≡ record (configuration_of self.old) { store = bound (configuration_of self.old).store number 0 0 slots.now arguments.now; processes = slice_set (configuration_of self.old).processes n q.old ++ (process ∷ []); nest = nest_with (configuration_of self.old).nest number vector }) }
+        ensures ok { OnOk result (configuration_of self.new ≡ record (configuration_of self.old) { store = all_stored (configuration_of self.old).store (first_words number 0 slots.now arguments.now); processes = slice_set (configuration_of self.old).processes n q.old ++ (process ∷ []); nest = nest_with (configuration_of self.old).nest number vector }) }
         ensures err { OnErr result (configuration_of self.new ≡ configuration_of self.old) }
     {
-        let mut store = self.store.copy()?;
-        bind(&mut store, number, 0, slots, arguments)?;
+        let alloc = *self.nest.allocator();
+        let words = first_words(alloc, number, 0, slots, arguments)?;
         let nest = self.nest_with(number, vector)?;
+        self.store.note_all(words.as_slice())?;
         self.adds_process(n, q, process)?;
-        self.store = store;
+        self.store.put_all(words.as_slice());
         self.nest = nest;
         Ok(())
     }

@@ -1,8 +1,9 @@
 // Processes: what they run, what they have found, and what is still to do.
 
-ghost use Rattle.std.specs.Prelude.{◌≡◌, ◌∷◌, ◌++◌, [], ℕ, ◌+◌, IfOk, OnOk, MatchOption, drop, take};
-ghost use Rattle.mc_meaning.specs.Actions.{new_process, started_kind, started_state};
-ghost use Rattle.mc_meaning.specs.Calling.{arguments_of, entered};
+ghost use Rattle.std.specs.Prelude.{◌≡◌, ◌≢◌, ◌∷◌, ◌++◌, [], ℕ, ◌+◌, IfOk, OnOk, MatchOption, drop, length, take};
+ghost use Rattle.std.specs.Bool.{OnFalse, OnTrue};
+ghost use Rattle.mc_meaning.specs.Actions.{in_state, new_process, started_kind, started_state};
+ghost use Rattle.mc_meaning.specs.Calling.{arguments_of, entered, returned};
 ghost use Rattle.mc_meaning.specs.Configuration.{main_process};
 
 use crate::calling::{local_clears, priority_in};
@@ -111,6 +112,36 @@ impl Model for References {
     ghost view = { λ r. r.references.items };
 }
 
+/// What has been found, the last first, which contracts see as a list.
+#[derive(Debug, Drop)]
+pub struct Findings {
+    pub found: VecDeque<Found>,
+}
+
+impl Model for Findings {
+    ghost use Rattle.std.specs.Prelude.{List};
+    ghost use Rattle.mc_meaning.specs.declared.store.Found.{Found};
+
+    ghost Value = { List Found };
+
+    ghost view = { λ f. f.found.items };
+}
+
+/// What is still to do, which contracts see as a list.
+#[derive(Debug, Drop)]
+pub struct Tasks {
+    pub rest: VecDeque<Item>,
+}
+
+impl Model for Tasks {
+    ghost use Rattle.std.specs.Prelude.{List};
+    ghost use Rattle.mc_meaning.specs.declared.process.Item.{Item};
+
+    ghost Value = { List Item };
+
+    ghost view = { λ t. t.rest.items };
+}
+
 /// A call that has not returned.
 #[derive(Debug, Drop)]
 pub struct Activation {
@@ -121,9 +152,10 @@ pub struct Activation {
     pub before: u16,
     /// How many words of a workspace it is counted for.
     pub frame: u32,
-    /// How many activations its process had made before.
-    pub number: u64,
     pub references: References,
+    /// What its caller had found, and had still to do.
+    pub found: Findings,
+    pub rest: Tasks,
 }
 
 /// The three kinds of processes.
@@ -145,14 +177,21 @@ pub enum State {
     Ended,
 }
 
+/// What a process is, and where it stands.
+#[derive(Clone, Copy, PartialEq, Eq, Debug)]
+pub struct Standing {
+    /// The declared process that it runs, which the main process lacks.
+    pub declared: Option<u32>,
+    pub kind: ProcessKind,
+    pub state: State,
+    /// The priority that holds for it now, 0 to 7.
+    pub priority: u16,
+}
+
 /// A process.
 #[derive(Debug, Drop)]
 pub struct Process {
-    declared: Option<u32>,
-    kind: ProcessKind,
-    state: State,
-    priority: u16,
-    made: u64,
+    standing: Standing,
     activations: VecDeque<Activation>,
     found: VecDeque<Found>,
     rest: VecDeque<Item>,
@@ -163,7 +202,7 @@ impl Model for Process {
 
     ghost Value = { ProcessState };
 
-    ghost view = { λ p. record { declared = p.declared; kind = p.kind; state = p.state; priority = p.priority; made = p.made; activations = p.activations.items; found = p.found.items; rest = p.rest.items } };
+    ghost view = { λ p. record { standing = p.standing; activations = p.activations.items; found = p.found.items; rest = p.rest.items } };
 }
 
 // A copy of what has been found.
@@ -216,8 +255,13 @@ impl Activation {
             module: self.module,
             before: self.before,
             frame: self.frame,
-            number: self.number,
             references: self.references.copy()?,
+            found: Findings {
+                found: found_copy(&self.found.found)?,
+            },
+            rest: Tasks {
+                rest: items_copy(&self.rest.rest)?,
+            },
         })
     }
 }
@@ -243,17 +287,22 @@ fn activations_copy(activations: &VecDeque<Activation>) -> Result<VecDeque<Activ
     Ok(copies)
 }
 
-// The activation of a process's text, with no references.
+// The activation of a process's text, with no references and no caller.
 fn first_activation(alloc: Global, running: Running, module: Option<u32>, frame: u32) -> Activation
-    ensures { result ≡ record { running = running; «module» = «module»; before = 0; frame = frame; number = 0; references = [] } }
+    ensures { result ≡ record { running = running; «module» = «module»; before = 0; frame = frame; references = []; found = []; rest = [] } }
 {
     Activation {
         running,
         module,
         before: 0,
         frame,
-        number: 0,
         references: References::none(alloc),
+        found: Findings {
+            found: VecDeque::new(alloc),
+        },
+        rest: Tasks {
+            rest: VecDeque::new(alloc),
+        },
     }
 }
 
@@ -306,11 +355,12 @@ impl Process {
         let mut activations = VecDeque::new(alloc);
         activations.push_front(activation)?;
         Ok(Process {
-            declared: None,
-            kind: ProcessKind::Main,
-            state: State::Acting,
-            priority: 0,
-            made: 1,
+            standing: Standing {
+                declared: None,
+                kind: ProcessKind::Main,
+                state: State::Acting,
+                priority: 0,
+            },
             activations,
             found: VecDeque::new(alloc),
             rest: VecDeque::from_vec(vec![in alloc; Item::Runs(main.body), Item::Ends]?),
@@ -336,11 +386,12 @@ impl Process {
         let mut activations = VecDeque::new(alloc);
         activations.push_front(first_activation(alloc, Running::Process(k), module, code.frame))?;
         Ok(Process {
-            declared: Some(k),
-            kind: started_kind(info.vector),
-            state: started_state(info.vector),
-            priority: priority_in(program, code.module, 0),
-            made: 1,
+            standing: Standing {
+                declared: Some(k),
+                kind: started_kind(info.vector),
+                state: started_state(info.vector),
+                priority: priority_in(program, code.module, 0),
+            },
             activations,
             found: VecDeque::new(alloc),
             rest: VecDeque::from_vec(rest),
@@ -352,11 +403,7 @@ impl Process {
         ensures { IfOk result (λ copy. copy ≡ self.now) }
     {
         Ok(Process {
-            declared: self.declared,
-            kind: self.kind,
-            state: self.state,
-            priority: self.priority,
-            made: self.made,
+            standing: self.standing,
             activations: activations_copy(&self.activations)?,
             found: found_copy(&self.found)?,
             rest: items_copy(&self.rest)?,
@@ -365,44 +412,44 @@ impl Process {
 
     /// The declared process that it runs, which the main process lacks.
     pub fn declared(&self) -> Option<u32>
-        ensures { result ≡ self.now.declared }
+        ensures { result ≡ self.now.standing.declared }
     {
-        self.declared
+        self.standing.declared
     }
 
     /// The kind of process that it is.
     pub fn kind(&self) -> ProcessKind
-        ensures { result ≡ self.now.kind }
+        ensures { result ≡ self.now.standing.kind }
     {
-        self.kind
+        self.standing.kind
     }
 
     /// Where it stands.
     pub fn state(&self) -> State
-        ensures { result ≡ self.now.state }
+        ensures { result ≡ self.now.standing.state }
     {
-        self.state
+        self.standing.state
     }
 
     /// The priority that holds for it now, 0 to 7.
     pub fn priority(&self) -> u16
-        ensures { result ≡ self.now.priority }
+        ensures { result ≡ self.now.standing.priority }
     {
-        self.priority
+        self.standing.priority
     }
 
-    /// How many activations it has made.
-    pub fn made(&self) -> u64
-        ensures { result ≡ self.now.made }
+    /// How many activations have not returned.
+    pub fn depth(&self) -> u64
+        ensures { result ≡ length self.now.activations }
     {
-        self.made
+        self.activations.len() as u64
     }
 
     /// It stands here now.
     pub(crate) fn set_state(&mut self, state: State)
-        ensures { self.new ≡ record self.old { state = state } }
+        ensures { self.new ≡ in_state state self.old }
     {
-        self.state = state;
+        self.standing.state = state;
     }
 
     /// A copy of what it has still to do.
@@ -419,40 +466,47 @@ impl Process {
         self.activations.front()
     }
 
-    /// Makes an activation of what runs, and takes this priority.
+    /// Makes an activation of what runs, at this priority. What has been found, and this rest, is put by in it.
     pub(crate) fn enters(
         &mut self,
+        rest: &mut VecDeque<Item>,
         running: Running,
         module: u32,
         frame: u32,
         references: References,
         priority: u16,
     ) -> Result<(), Memory>
-        ensures { OnOk result (self.new ≡ entered self.old running «module» frame references priority) }
+        ensures { OnOk result (self.new ≡ entered self.old rest.old.items running «module» frame references priority) }
     {
-        let Some(made) = self.made.checked_add(1) else {
-            return Err(Memory);
-        };
+        let alloc = *rest.allocator();
+        let found = mem::replace(&mut self.found, VecDeque::new(alloc));
+        let rest = mem::replace(rest, VecDeque::new(alloc));
         self.activations.push_front(Activation {
             running,
             module: Some(module),
-            before: self.priority,
+            before: self.standing.priority,
             frame,
-            number: self.made,
             references,
+            found: Findings { found },
+            rest: Tasks { rest },
         })?;
-        self.made = made;
-        self.priority = priority;
+        self.standing.priority = priority;
         Ok(())
     }
 
-    /// Leaves the last activation, and takes the priority before it.
-    pub(crate) fn leaves(&mut self) -> Option<Activation>
-        ensures { MatchOption result ((self.old.activations ≡ []) × (self.new ≡ self.old)) (λ a. (self.old.activations ≡ a ∷ self.new.activations) × (self.new ≡ record self.old { priority = a.before; activations = self.new.activations })) }
+    /// Leaves the last activation, where there is one, and goes back to what its caller was at; says whether there was one.
+    pub(crate) fn returns(&mut self) -> bool
+        ensures one { OnTrue result (self.old.activations ≢ []) }
+        ensures none { OnFalse result (self.old.activations ≡ []) }
+        ensures back { self.new ≡ returned self.old self.old.activations }
     {
-        let activation = self.activations.pop_front()?;
-        self.priority = activation.before;
-        Some(activation)
+        let Some(activation) = self.activations.pop_front() else {
+            return false;
+        };
+        self.standing.priority = activation.before;
+        self.found = activation.found.found;
+        self.rest = activation.rest.rest;
+        true
     }
 
     /// Puts what was found in front of what has been found.

@@ -167,7 +167,7 @@ fn next(
             stand_at_doio(config, n, q, rest);
             Ok(())
         }
-        Item::Returns(slot) => leave(config, n, q, slot, rest),
+        Item::Returns(slot) => leave(config, n, q, slot),
         Item::Ends => {
             finish(config, n, q, rest);
             Ok(())

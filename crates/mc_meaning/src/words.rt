@@ -1,8 +1,8 @@
 // The words of a store by their names.
 
-ghost use Rattle.std.specs.Prelude.{◌≡◌, IfOk, OnOk, OnErr};
-ghost use Rattle.mc_meaning.specs.Configuration.{stored};
-ghost use Rattle.mc_meaning.specs.StoredWords.{words_in};
+ghost use Rattle.std.specs.Prelude.{◌≡◌, IfOk, OnOk, OnErr, false, true};
+ghost use Rattle.mc_meaning.specs.Configuration.{all_stored, stored};
+ghost use Rattle.mc_meaning.specs.StoredWords.{AreNoted, KeepsNotes, is_noted, words_in};
 
 use crate::store::Name;
 use mc_word::Word;
@@ -28,16 +28,6 @@ impl Words {
         }
     }
 
-    /// A copy of these words.
-    pub(crate) fn copy(&self) -> Result<Words, Memory>
-        ensures { IfOk result (λ copy. words_in copy ≡ words_in self.now) }
-    {
-        Ok(Words {
-            variables: self.variables.clone()?,
-            privates: self.privates.clone()?,
-        })
-    }
-
     /// The word of this name.
     pub(crate) fn get(&self, name: Name) -> Word
         ensures { result ≡ words_in self.now name }
@@ -58,6 +48,11 @@ impl Words {
     pub(crate) fn put(&mut self, name: Name, word: Word) -> Result<(), Memory>
         ensures ok { OnOk result (words_in self.new ≡ stored (words_in self.old) name word) }
         ensures err { OnErr result (words_in self.new ≡ words_in self.old) }
+
+        // Only a word that was not noted can lack memory.
+        ensures noted { OnOk result (is_noted self.new name ≡ true) }
+        ensures absent { OnErr result (is_noted self.old name ≡ false) }
+        ensures kept { KeepsNotes self.old self.new }
     {
         match name {
             Name::Variable(cell, at) => {
@@ -68,5 +63,42 @@ impl Words {
             }
         }
         Ok(())
+    }
+
+    // Notes the word of this name as it is, so that it can be written without memory.
+    fn note(&mut self, name: Name) -> Result<(), Memory>
+        ensures same { words_in self.new ≡ words_in self.old }
+        ensures noted { OnOk result (is_noted self.new name ≡ true) }
+        ensures kept { KeepsNotes self.old self.new }
+    {
+        self.put(name, self.get(name))
+    }
+
+    /// Notes the words of these names as they are, so that `put_all` can write them without memory.
+    pub(crate) fn note_all(&mut self, words: &[(Name, Word)]) -> Result<(), Memory>
+        ensures same { words_in self.new ≡ words_in self.old }
+        ensures noted { OnOk result (AreNoted self.new words.now) }
+    {
+        let mut i = words.len();
+        while i > 0 {
+            i -= 1;
+            self.note(words[i].0)?;
+        }
+        Ok(())
+    }
+
+    /// Writes words that were noted, one after the other.
+    pub(crate) fn put_all(&mut self, words: &[(Name, Word)])
+        requires { AreNoted self.old words.now }
+        ensures { words_in self.new ≡ all_stored (words_in self.old) words.now }
+    {
+        let mut i = 0;
+        while i < words.len() {
+            let (name, word) = words[i];
+            if self.put(name, word).is_err() {
+                unreachable!();
+            }
+            i += 1;
+        }
     }
 }

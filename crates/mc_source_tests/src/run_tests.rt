@@ -361,6 +361,34 @@ fn copies_a_structured_parameter(rt: HostRuntime) -> Result<(), Fail> {
     Ok(())
 }
 
+/// The second call of each has the words of the first one, which has returned: its result and its local are 0 again.
+#[test]
+fn begins_each_call_with_zeros(rt: HostRuntime) -> Result<(), Fail> {
+    let source =
+        "module again; device module console [4]; define put; var TPS [177564B]: bits; TPB [177566B]: char; procedure put(c: char); begin while not TPS[7] do end; TPB := c end put; end console; procedure f(k: integer): integer; begin if k = 1 then f := 5 end end f; procedure p(k: integer); var x: integer; begin if k = 1 then x := 6 end; put(char(100B + x)) end p; begin put(char(100B + f(1))); put(char(100B + f(0))); p(1); p(0) end again.";
+    let moves = [
+        Move::Steps(500),
+        Move::Happens(Event::Printer),
+        Move::Steps(500),
+        Move::Happens(Event::Printer),
+        Move::Steps(500),
+        Move::Happens(Event::Printer),
+        Move::Steps(500),
+    ];
+    let journal = [
+        Entry::Print(0o105),
+        Entry::Event(Event::Printer),
+        Entry::Print(0o100),
+        Entry::Event(Event::Printer),
+        Entry::Print(0o106),
+        Entry::Event(Event::Printer),
+        Entry::Print(0o100),
+    ];
+    let held = holds(rt.alloc(), source, &moves, &journal, End::Ended);
+    assert!(rt; held == Ok(true), "{held:?}");
+    Ok(())
+}
+
 /// The main process traps while the keyboard may ask; then a key comes, and nothing is granted.
 #[test]
 fn grants_nothing_after_a_trap(rt: HostRuntime) -> Result<(), Fail> {

@@ -9,5 +9,5 @@ returns-in_err-adds_waiter-clause-err c = on-err c.from_residual.result _ c.in_e
 -- src/actions.rt: the process waits and has left its place
 pub returns-clause-ok : goal.returns-clause-ok
 returns-clause-ok c =
-    delayed-by (configuration_of c.args.config.now) (configuration_of c.adds_waiter.new.self) (configuration_of c.goes_on.new.self) (configuration_of c.vacates.new.self) c.args.n c.args.q.now c.set_state.new.self c.kind-kind.result c.args.signal c.args.rank c.args.rest.now.items
-    c.in_ok-adds_waiter.ensures.ok c.set_state.ensures c.kind-kind.ensures c.goes_on.ensures c.vacates.ensures
+    delayed-by (configuration_of c.args.config.now) (configuration_of c.adds_waiter.new.self) (configuration_of c.goes_on.new.self) (configuration_of c.vacates.new.self) c.args.n c.args.q.now c.set_state.new.self c.args.signal c.args.rank c.args.rest.now.items
+    c.in_ok-adds_waiter.ensures.ok c.set_state.ensures c.goes_on.ensures c.vacates.ensures

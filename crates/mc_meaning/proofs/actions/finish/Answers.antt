@@ -6,5 +6,5 @@ use Rattle.mc_meaning.proofs.actions.finish.Goals as goal
 -- src/actions.rt
 pub returns : goal.returns
 returns c =
-    left-in (configuration_of c.args.config.now) (configuration_of c.goes_on.new.self) (configuration_of c.vacates.new.self) c.args.n Ended c.args.q.now c.set_state.new.self c.kind-kind.result c.args.rest.now.items
-    c.set_state.ensures c.kind-kind.ensures c.goes_on.ensures c.vacates.ensures
+    left-in (configuration_of c.args.config.now) (configuration_of c.goes_on.new.self) (configuration_of c.vacates.new.self) c.args.n Ended c.args.q.now c.set_state.new.self c.args.rest.now.items
+    c.set_state.ensures c.goes_on.ensures c.vacates.ensures

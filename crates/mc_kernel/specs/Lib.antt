@@ -1,0 +1,4 @@
+pub mod Kernel
+pub mod Laws
+pub mod Memory
+pub mod Words
